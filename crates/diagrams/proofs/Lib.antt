@@ -1,0 +1,11 @@
+pub mod Canonical
+pub mod Tables
+pub mod Held
+pub mod Reached
+pub mod Rooted
+pub mod Extend
+pub mod Steps
+pub mod Grow
+pub mod Settle
+pub mod Chain
+pub mod Tail

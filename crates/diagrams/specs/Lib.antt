@@ -1,0 +1,4 @@
+pub mod Needs
+pub mod Nodes
+pub mod Held
+pub mod Apply

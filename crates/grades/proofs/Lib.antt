@@ -1,0 +1,2 @@
+pub mod Optimal
+pub mod Lawful

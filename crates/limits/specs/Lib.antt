@@ -1,0 +1,4 @@
+pub mod Choices
+pub mod Limits
+pub mod Refusals
+pub mod Drafts

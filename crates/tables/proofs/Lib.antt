@@ -1,0 +1,3 @@
+pub mod Keeps
+pub mod Linked
+pub mod Tables
