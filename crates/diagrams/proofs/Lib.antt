@@ -1,6 +1,7 @@
 pub mod Canonical
 pub mod Tables
 pub mod Held
+pub mod Needed
 pub mod Reached
 pub mod Rooted
 pub mod Extend

@@ -1,4 +1,5 @@
 pub mod Needs
 pub mod Nodes
 pub mod Held
+pub mod Needed
 pub mod Apply

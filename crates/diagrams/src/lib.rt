@@ -1,4 +1,5 @@
 //! Edge-valued decision diagrams: nodes, edges, and the questions that a walk answers.
+pub mod laws;
 
 /// What an edge leads to: the terminal, or the node at a place of a table.
 #[derive(Clone, Copy, PartialEq, Eq, Drop)]

@@ -1,5 +1,6 @@
 //! Parts, choices, limits, and the refusals of a job's calls.
 ghost use mathlib.Core.Path.{_≡_};
+ghost use Rattle.limits.specs.Choices.{Words-are-choices};
 ghost use Rattle.limits.specs.Refusals.{number};
 
 pub mod drafts;
@@ -52,4 +53,10 @@ impl Refusal {
             Refusal::TooFewPlaces => 15,
         }
     }
+}
+
+/// Words and choices stand for each other.
+pub fn words_are_choices()
+    ensures { λ _. ⌜ Words-are-choices ⌝ }
+{
 }
