@@ -43,9 +43,17 @@ view ns i Terminal f = inl (refl, tt)
 view ns i (Place k) f = ⊎-elim same other (cases-eq (f .0 .part) i)
   where
     same : f .0 .part ≡ i → View ns i (Place k)
-    same e = inr (f .0, record {
-      k = k; is = refl; found = f .1; part-is = e;
-      stands = ap (if-part i) (f .1) ∙ cond-true (eqb (f .0 .part) i) (Some (f .0)) None (eq-eqb (f .0 .part) i e) })
+    same e = inr (
+      f .0,
+      record {
+        k = k;
+        is = refl;
+        found = f .1;
+        part-is = e;
+        stands = ap (if-part i) (f .1) ∙ cond-true (eqb (f .0 .part) i) (Some (f .0)) None (eq-eqb (f .0 .part) i e);
+      },
+    )
+
     other : (f .0 .part ≡ i → ⊥) → View ns i (Place k)
     other e = inl (ap (if-part i) (f .1) ∙ cond-false (eqb (f .0 .part) i) (Some (f .0)) None (ne-eqb (f .0 .part) i e), (f .0, f .1, omega arith))
 
@@ -90,12 +98,12 @@ module _ (parts : ℕ) (ns : List Node) (sound : Sound parts ns) where
   one-stands : (m i : ℕ) (r s : Child) (n : Node) → Stands ns i r n → here ns i s ≡ None → Same (suc m) i r s → ((t u : Child) → From ns (suc i) t → From ns (suc i) u → Same m (suc i) t u → t ≡ u) → ⊥
   one-stands m i r s n st skip same ih =
       let edge : Same-edge m (suc i) (n .value) (n .left) (pos 0) (n .right) = λ c l.
-          sym (value-fit ns i r n c (st .stands))
-          ∙ (same (true ∷ c) (ap suc l)
-          ∙ (value-skip ns i s true c skip
-          ∙ (sym (value-skip ns i s false c skip)
-          ∙ (sym (same (false ∷ c) (ap suc l))
-          ∙ (value-leave ns i r n c (st .stands) ∙ sym (+ℤ-idl _)))))) in
+      sym (value-fit ns i r n c (st .stands))
+      ∙ (same (true ∷ c) (ap suc l)
+      ∙ (value-skip ns i s true c skip
+      ∙ (sym (value-skip ns i s false c skip)
+      ∙ (sym (same (false ∷ c) (ap suc l))
+      ∙ (value-leave ns i r n c (st .stands) ∙ sym (+ℤ-idl _)))))) in
       let both = offsets m (suc i) (n .value) (pos 0) (n .left) (n .right) edge in
       let up-left : From ns (suc i) (n .left) = subst (λ j. From ns (suc j) (n .left)) (st .part-is) (sound .left-higher (st .k) n (st .found)) in
       let up-right : From ns (suc i) (n .right) = subst (λ j. From ns (suc j) (n .right)) (st .part-is) (sound .right-higher (st .k) n (st .found)) in
@@ -104,12 +112,12 @@ module _ (parts : ℕ) (ns : List Node) (sound : Sound parts ns) where
   both-stand : (m i : ℕ) (r s : Child) (n k : Node) → Stands ns i r n → Stands ns i s k → Same (suc m) i r s → ((t u : Child) → From ns (suc i) t → From ns (suc i) u → Same m (suc i) t u → t ≡ u) → r ≡ s
   both-stand m i r s n k st su same ih =
       let edge : Same-edge m (suc i) (n .value) (n .left) (k .value) (k .left) = λ c l.
-          sym (value-fit ns i r n c (st .stands)) ∙ (same (true ∷ c) (ap suc l) ∙ value-fit ns i s k c (su .stands)) in
+      sym (value-fit ns i r n c (st .stands)) ∙ (same (true ∷ c) (ap suc l) ∙ value-fit ns i s k c (su .stands)) in
       let rest : Same m (suc i) (n .right) (k .right) = λ c l.
-          sym (value-leave ns i r n c (st .stands)) ∙ (same (false ∷ c) (ap suc l) ∙ value-leave ns i s k c (su .stands)) in
+      sym (value-leave ns i r n c (st .stands)) ∙ (same (false ∷ c) (ap suc l) ∙ value-leave ns i s k c (su .stands)) in
       let both = offsets m (suc i) (n .value) (k .value) (n .left) (k .left) edge in
       let up : (j : ℕ) (q : Node) → nth ns j ≡ Some q → q .part ≡ i → From ns (suc i) (q .left) × From ns (suc i) (q .right) = λ j q f e.
-          (subst (λ h. From ns (suc h) (q .left)) e (sound .left-higher j q f), subst (λ h. From ns (suc h) (q .right)) e (sound .right-higher j q f)) in
+      (subst (λ h. From ns (suc h) (q .left)) e (sound .left-higher j q f), subst (λ h. From ns (suc h) (q .right)) e (sound .right-higher j q f)) in
       let un = up (st .k) n (st .found) (st .part-is) in
       let uk = up (su .k) k (su .found) (su .part-is) in
       let equal : k ≡ n = node-path k n (su .part-is ∙ sym (st .part-is)) (sym (both .0)) (sym (ih (n .left) (k .left) (un .0) (uk .0) (both .1))) (sym (ih (n .right) (k .right) (un .1) (uk .1) rest)) in

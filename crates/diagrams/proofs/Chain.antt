@@ -28,8 +28,8 @@ pub allows-later : (ts : List (List ℤ)) (parts : ℕ) (ws : List ℤ) → part
 allows-later ts parts ws l h zero low = let e : parts ≡ parts - 0 = omega arith in subst (λ z. Allows ts z (sum ws)) e h
 allows-later ts parts ws l h (suc i) low =
     allows-settled ts parts i (sum (drop i ws)) (sum (drop (suc i) ws)) false (omega arith)
-      (λ c e. ap (λ z. sum z (false ∷ c)) (drop-cons ws i (pos 0) (omega arith)) ∙ +ℤ-idl (sum (drop (suc i) ws) c))
-      (allows-later ts parts ws l h i (omega arith))
+    (λ c e. ap (λ z. sum z (false ∷ c)) (drop-cons ws i (pos 0) (omega arith)) ∙ +ℤ-idl (sum (drop (suc i) ws) c))
+    (allows-later ts parts ws l h i (omega arith))
 
 pub sums-none : (parts : ℕ) (ns : List Node) (ws : List ℤ) (e : Edge) → e .child ≡ Terminal → e .constant ≡ pos 0 → Sums parts ns ws parts e
 sums-none parts ns ws e t z = record {
@@ -40,6 +40,7 @@ sums-none parts ns ws e t z = record {
     last : (bs : List ℤ) → sum bs [] ≡ pos 0
     last [] = refl
     last (b ∷ bs) = refl
+
     at : (c : List Bool) → parts + length c ≡ parts → edge-at ns parts e c ≡ sum (drop parts ws) c
     at [] h = edge-constant ns parts e [] t ∙ (z ∙ sym (last (drop parts ws)))
     at (x ∷ c) h = absurd (omega arith)

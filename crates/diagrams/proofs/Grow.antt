@@ -79,10 +79,10 @@ module _ (parts : ℕ) {a b : List Node} (sound : Sound parts a) (g : Grown a b)
     left-in = from-grown g 0 _ (r .left-in);
     right-in = from-grown g 0 _ (r .right-in);
     right = λ i fl fr.
-      let gl = from-back g i _ (r .left-in) fl in
-      let gr = from-back g i _ (r .right-in) fr in
-      let at = r .right i gl gr in
-      record { from = from-grown g i _ (at .from); equal = λ c l. edge-grown i e c (at .from) ∙ (at .equal c l ∙ sym (target-grown i q c gl gr)) };
+        let gl = from-back g i _ (r .left-in) fl in
+        let gr = from-back g i _ (r .right-in) fr in
+        let at = r .right i gl gr in
+        record { from = from-grown g i _ (at .from); equal = λ c l. edge-grown i e c (at .from) ∙ (at .equal c l ∙ sym (target-grown i q c gl gr)) };
   }
 
   pub cofactor-grown : (i : ℕ) (e : Edge) (x : Bool) (r : Edge) → From a i (e .child) → Cofactor a i e x r → Cofactor b i e x r
@@ -170,7 +170,7 @@ module _ (parts : ℕ) (ns : List Node) (ts : List (List ℤ)) (good : Good part
       let s : suc d ≡ parts - i = omega arith in
       let f : List Bool → ℤ = joined ns i fit out in
       m .allowed _ (subst (λ z. In (node-table parts after (length ns) n) (needed z f)) s
-        (in-own-part parts after sound-after d f _ (stands-depends parts after sound-after d i e (out .constant) (Place (length ns)) f n stands (denotes d)) (own-table parts after sound-after d i e (out .constant) (Place (length ns)) f n stands (denotes d))))
+      (in-own-part parts after sound-after d f _ (stands-depends parts after sound-after d i e (out .constant) (Place (length ns)) f n stands (denotes d)) (own-table parts after sound-after d i e (out .constant) (Place (length ns)) f n stands (denotes d))))
 
   old-within : (k : ℕ) (q : Node) → nth ns k ≡ Some q → In (node-table parts after k q) ts
   old-within k q e =

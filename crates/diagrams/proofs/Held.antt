@@ -71,25 +71,26 @@ module _ (parts : ℕ) (ns : List Node) (sound : Sound parts ns) where
   tables-apart : (k : ℕ) (rest : List Node) → ((j : ℕ) (n : Node) → nth rest j ≡ Some n → nth ns (k + j) ≡ Some n) → Apart (tables-from k rest)
   unfolding tables-from
   tables-apart k [] link = tt
-  tables-apart k (n ∷ rest) link =
-      (λ m. let h = made (suc k) rest _ m in
+  tables-apart k (n ∷ rest) link = (
+    λ m. let h = made (suc k) rest _ m in
         let e : k ≡ suc k + h .0 = node-once k (suc k + h .0) n (h .1) (rw add-zero at (link 0 n refl)) (subst (λ i. nth ns i ≡ Some (h .1)) (omega arith) (link (suc (h .0)) (h .1) (h .2))) (h .3) in
         omega arith,
-       tables-apart (suc k) rest (λ j q f. subst (λ i. nth ns i ≡ Some q) (omega arith) (link (suc j) q f)))
+    tables-apart (suc k) rest (λ j q f. subst (λ i. nth ns i ≡ Some q) (omega arith) (link (suc j) q f)),
+  )
 
   -- nodes of needed functions are no more than are needed: so where a new one is wanted and the table is full, too many are needed
   pub AtMost : (ts : List (List ℤ)) → ((k : ℕ) (n : Node) → nth ns k ≡ Some n → In (node-table parts ns k n) ts) → length ns ≤ length (once ts)
   AtMost ts in-ts =
       let low : length (tables-from 0 ns) ≤ length (once ts) = no-more (tables-from 0 ns) (once ts) (tables-apart 0 ns (λ j n f. rw zero-add f)) (λ t m. let h = made 0 ns t m in
-          let e : t ≡ node-table parts ns (h .0) (h .1) = rw zero-add at (h .3) in
-          in-once ts t (subst (λ z. In z ts) (sym e) (in-ts (h .0) (h .1) (h .2)))) in
+      let e : t ≡ node-table parts ns (h .0) (h .1) = rw zero-add at (h .3) in
+      in-once ts t (subst (λ z. In z ts) (sym e) (in-ts (h .0) (h .1) (h .2)))) in
       let l = tables-length 0 ns in
       omega arith
 
   pub at-least : (ts : List (List ℤ)) → ((t : List ℤ) → In t ts → (k : ℕ) × (n : Node) × (nth ns k ≡ Some n) × (t ≡ node-table parts ns k n)) → length (once ts) ≤ length ns
   at-least ts each =
       let high : length (once ts) ≤ length (tables-from 0 ns) = no-more (once ts) (tables-from 0 ns) (once-apart ts) (λ t m. let h = each t (once-in ts t m) in
-          subst (λ z. In z (tables-from 0 ns)) (sym (h .3)) (rw zero-add at (in-tables 0 (h .0) ns (h .1) (h .2)))) in
+      subst (λ z. In z (tables-from 0 ns)) (sym (h .3)) (rw zero-add at (in-tables 0 (h .0) ns (h .1) (h .2)))) in
       let l = tables-length 0 ns in
       omega arith
 

@@ -23,13 +23,13 @@ differ zero f g e = ([], refl, λ h. both-ways _ e (same-table-eq _ _ (ap (λ z.
 differ (suc m) f g e = at (cases-bool _) (differ m (λ c. f (false ∷ c)) (λ c. g (false ∷ c))) (cases-bool _) (differ m (λ c. f (true ∷ c)) (λ c. g (true ∷ c)))
   where
     at : (same-table (table m (λ c. f (false ∷ c))) (table m (λ c. g (false ∷ c))) ≡ true) ⊎ (same-table (table m (λ c. f (false ∷ c))) (table m (λ c. g (false ∷ c))) ≡ false)
-      → (same-table (table m (λ c. f (false ∷ c))) (table m (λ c. g (false ∷ c))) ≡ false → Differ m (λ c. f (false ∷ c)) (λ c. g (false ∷ c)))
-      → (same-table (table m (λ c. f (true ∷ c))) (table m (λ c. g (true ∷ c))) ≡ true) ⊎ (same-table (table m (λ c. f (true ∷ c))) (table m (λ c. g (true ∷ c))) ≡ false)
-      → (same-table (table m (λ c. f (true ∷ c))) (table m (λ c. g (true ∷ c))) ≡ false → Differ m (λ c. f (true ∷ c)) (λ c. g (true ∷ c)))
-      → Differ (suc m) f g
+        → (same-table (table m (λ c. f (false ∷ c))) (table m (λ c. g (false ∷ c))) ≡ false → Differ m (λ c. f (false ∷ c)) (λ c. g (false ∷ c)))
+        → (same-table (table m (λ c. f (true ∷ c))) (table m (λ c. g (true ∷ c))) ≡ true) ⊎ (same-table (table m (λ c. f (true ∷ c))) (table m (λ c. g (true ∷ c))) ≡ false)
+        → (same-table (table m (λ c. f (true ∷ c))) (table m (λ c. g (true ∷ c))) ≡ false → Differ m (λ c. f (true ∷ c)) (λ c. g (true ∷ c)))
+        → Differ (suc m) f g
     at (inr a) ih b ih2 = let d = ih a in (false ∷ d .0, ap suc (d .1), d .2)
     at (inl a) ih (inr b) ih2 = let d = ih2 b in (true ∷ d .0, ap suc (d .1), d .2)
-    at (inl a) ih (inl b) ih2 = 
+    at (inl a) ih (inl b) ih2 =
         let p : table m (λ c. f (false ∷ c)) ≡ table m (λ c. g (false ∷ c)) = same-table-true (table m (λ c. f (false ∷ c))) (table m (λ c. g (false ∷ c))) a in
         let q : table m (λ c. f (true ∷ c)) ≡ table m (λ c. g (true ∷ c)) = same-table-true (table m (λ c. f (true ∷ c))) (table m (λ c. g (true ∷ c))) b in
         let whole : table (suc m) f ≡ table (suc m) g = ap₂ _++_ p q in
@@ -41,24 +41,27 @@ needed-to (suc n) f t m = at (in-either t own _ m) (needed-to n (λ c. f (false 
   where
     own : List (List ℤ)
     own = cond (depends n f) (table (suc n) (less (suc n) f) ∷ []) []
+
     by-own : (b : Bool) → depends n f ≡ b → In t (cond b (table (suc n) (less (suc n) f) ∷ []) []) → Needed (suc n) f t
     by-own true e (inl h) =
         let d = differ n (λ c. f (false ∷ c)) (λ c. f (true ∷ c)) (not-true _ e) in
         record { settled = []; later = n; parts = omega arith; is = h; shown-by = d .0; shown-size = d .1; differs = λ q. d .2 (sym q) }
     by-own true e (inr h) = absurd h
     by-own false e h = absurd h
+
     more : (x : Bool) → Needed n (λ c. f (x ∷ c)) t → Needed (suc n) f t
     more x d = record { settled = x ∷ d .settled; later = d .later; parts = let e = d .parts in omega arith; is = d .is; shown-by = d .shown-by; shown-size = d .shown-size; differs = d .differs }
+
     at : In t own ⊎ In t (needed n (λ c. f (false ∷ c)) ++ needed n (λ c. f (true ∷ c))) → (In t (needed n (λ c. f (false ∷ c))) → Needed n (λ c. f (false ∷ c)) t) → (In t (needed n (λ c. f (true ∷ c))) → Needed n (λ c. f (true ∷ c)) t) → Needed (suc n) f t
     at (inl h) out fit = by-own (depends n f) refl h
     at (inr h) out fit = ⊎-elim (λ k. more false (out k)) (λ k. more true (fit k)) (in-either t (needed n (λ c. f (false ∷ c))) _ h)
-
 
 own-in : (n : ℕ) (f : List Bool → ℤ) (w : List Bool) → length w ≡ n → f (true ∷ w) ≢ f (false ∷ w) → In (table (suc n) (less (suc n) f)) (needed (suc n) f)
 own-in n f w l d = in-left (table (suc n) (less (suc n) f)) (cond (depends n f) (table (suc n) (less (suc n) f) ∷ []) []) _ (by (depends n f) refl)
   where
     no : depends n f ≡ false → ⊥
     no e = d (sym (table-same n (λ c. f (false ∷ c)) (λ c. f (true ∷ c)) (same-table-true (table n (λ c. f (false ∷ c))) (table n (λ c. f (true ∷ c))) (not-false (same-table (table n (λ c. f (false ∷ c))) (table n (λ c. f (true ∷ c)))) e)) w l))
+
     by : (b : Bool) → depends n f ≡ b → In (table (suc n) (less (suc n) f)) (cond b (table (suc n) (less (suc n) f) ∷ []) [])
     by true e = inl refl
     by false e = absurd (no e)

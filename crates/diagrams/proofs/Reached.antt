@@ -83,7 +83,7 @@ module _ (parts : ℕ) (ns : List Node) (sound : Sound parts ns) where
   Covered m i = (a : ℤ) (r : Child) (f : List Bool → ℤ) → From ns i r → Denotes m i a r f → (t : List ℤ) → In t (needed m f) → Node-of t
 
   cover-step : (m i : ℕ) → i + suc m ≡ parts → Covered m (suc i) → (a : ℤ) (r : Child) (f : List Bool → ℤ) → Denotes (suc m) i a r f → (t : List ℤ)
-    → View ns i r → In t (cond (depends m f) (table (suc m) (less (suc m) f) ∷ []) []) ⊎ (In t (needed m (λ c. f (false ∷ c))) ⊎ In t (needed m (λ c. f (true ∷ c)))) → Node-of t
+      → View ns i r → In t (cond (depends m f) (table (suc m) (less (suc m) f) ∷ []) []) ⊎ (In t (needed m (λ c. f (false ∷ c))) ⊎ In t (needed m (λ c. f (true ∷ c)))) → Node-of t
   cover-step m i e ih a r f d t (inl s) (inl h) = absurd (both-ways (depends m f) (skip-not m i a r f (s .0) d) (in-own (depends m f) t _ h .0))
   cover-step m i e ih a r f d t (inl s) (inr (inl h)) = ih a r (λ c. f (false ∷ c)) (s .1) (skip-denotes m i a r f false (s .0) d) t h
   cover-step m i e ih a r f d t (inl s) (inr (inr h)) = ih a r (λ c. f (true ∷ c)) (s .1) (skip-denotes m i a r f true (s .0) d) t h
@@ -114,7 +114,7 @@ module _ (parts : ℕ) (ns : List Node) (sound : Sound parts ns) where
       no h =
           let equal = table-same m (λ c. f (false ∷ c)) (λ c. f (true ∷ c)) (same-table-true _ _ h) in
           let edge : Same-edge parts ns sound m (suc i) (a +ℤ n .value) (n .left) a (n .right) = λ c l.
-              left-denotes m i a r f n (st .stands) d c l ∙ (sym (equal c l) ∙ sym (right-denotes m i a r f n (st .stands) d c l)) in
+          left-denotes m i a r f n (st .stands) d c l ∙ (sym (equal c l) ∙ sym (right-denotes m i a r f n (st .stands) d c l)) in
           let both = offsets parts ns sound m (suc i) (a +ℤ n .value) a (n .left) (n .right) edge in
           let us = up i (st .k) n (st .found) (st .part-is) in
           let zero-value : n .value ≡ pos 0 = no-value a (n .value) (both .0) in
@@ -147,8 +147,9 @@ module _ (parts : ℕ) (ns : List Node) (sound : Sound parts ns) where
     where
       st : Stands ns i r (s .0)
       st = s .1
+
       at : Reached (st .k) (s .0) k → In (node-table parts ns k n) (needed (suc m) f)
-      at (inl h) = 
+      at (inl h) =
           let found = st .found in
           let p : s .0 ≡ n = cc in
           in-own-part m f _ (stands-depends m i e a r f (s .0) st d) (own-table m i e a r f (s .0) st d ∙ ap₂ (node-table parts ns) (sym h) p)
@@ -157,7 +158,7 @@ module _ (parts : ℕ) (ns : List Node) (sound : Sound parts ns) where
 
   -- every node that is reached is a needed function of f
   pub only : (m i : ℕ) → i + m ≡ parts → Only m i
-  only zero i e a r f fr d k n fk re = 
+  only zero i e a r f fr d k n fk re =
       let h : i ≡ parts = omega arith in
       absurd (no-reach ns k r (only-terminal parts ns sound r (subst (λ j. From ns j r) h fr)) re)
   only (suc m) i e a r f fr d k n fk re = only-step m i e (only m (suc i) (omega arith)) a r f d k n fk re (view ns i r fr)

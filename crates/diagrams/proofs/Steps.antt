@@ -83,9 +83,9 @@ pub asked-up : (d : ℕ) (parts : ℕ) (ns : List Node) (ts : List (List ℤ)) (
 asked-up zero parts ns ts i j q e h fl fr a = let k : i ≡ j = omega arith in subst (λ z. Asked parts ns ts z q) k a
 asked-up (suc d) parts ns ts i j q e h fl fr a =
     asked-up d parts ns ts (suc i) j q (omega arith) h fl fr
-      (asked-settled parts ns ts i q false (q .left) (q .right) (omega arith) a
-        (cofactor-skip ns i (q .left) false (from-lower ns (suc i) j (q .left .child) (omega arith) fl))
-        (cofactor-skip ns i (q .right) false (from-lower ns (suc i) j (q .right .child) (omega arith) fr)))
+    (asked-settled parts ns ts i q false (q .left) (q .right) (omega arith) a
+    (cofactor-skip ns i (q .left) false (from-lower ns (suc i) j (q .left .child) (omega arith) fl))
+    (cofactor-skip ns i (q .right) false (from-lower ns (suc i) j (q .right .child) (omega arith) fr)))
 
 -- and an answer there is one further down
 right-below : (parts : ℕ) (ns : List Node) (i : ℕ) (q : Question) (e : Edge) → i < parts → From ns (suc i) (q .left .child) → From ns (suc i) (q .right .child) → Right-at parts ns (suc i) q e → Right-at parts ns i q e
@@ -111,8 +111,8 @@ right-top parts ns q e j top r = record {
 }
 
 pub right-joined : (parts : ℕ) (ns : List Node) (i : ℕ) (q : Question) (l₁ r₁ l₀ r₀ fit out e : Edge) → i < parts
-  → Cofactor ns i (q .left) true l₁ → Cofactor ns i (q .right) true r₁ → Cofactor ns i (q .left) false l₀ → Cofactor ns i (q .right) false r₀
-  → Right-at parts ns (suc i) (question (q .operation) l₁ r₁) fit → Right-at parts ns (suc i) (question (q .operation) l₀ r₀) out → Joined ns i fit out e → Right-at parts ns i q e
+    → Cofactor ns i (q .left) true l₁ → Cofactor ns i (q .right) true r₁ → Cofactor ns i (q .left) false l₀ → Cofactor ns i (q .right) false r₀
+    → Right-at parts ns (suc i) (question (q .operation) l₁ r₁) fit → Right-at parts ns (suc i) (question (q .operation) l₀ r₀) out → Joined ns i fit out e → Right-at parts ns i q e
 right-joined parts ns i q l₁ r₁ l₀ r₀ fit out e low cl₁ cr₁ cl₀ cr₀ rf ro j = record { from = j .from; equal = at }
   where
     at : (c : List Bool) → i + length c ≡ parts → edge-at ns i e c ≡ target ns i q c
@@ -122,8 +122,8 @@ right-joined parts ns i q l₁ r₁ l₀ r₀ fit out e low cl₁ cr₁ cl₀ cr
 
 -- what the two answers make is what the question asks, so it may be built
 pub allows-joined : (parts : ℕ) (ns : List Node) (ts : List (List ℤ)) (i : ℕ) (q : Question) (l₁ r₁ l₀ r₀ fit out : Edge) → i < parts
-  → Cofactor ns i (q .left) true l₁ → Cofactor ns i (q .right) true r₁ → Cofactor ns i (q .left) false l₀ → Cofactor ns i (q .right) false r₀
-  → Right-at parts ns (suc i) (question (q .operation) l₁ r₁) fit → Right-at parts ns (suc i) (question (q .operation) l₀ r₀) out → Asked parts ns ts i q → Allows ts (parts - i) (joined ns i fit out)
+    → Cofactor ns i (q .left) true l₁ → Cofactor ns i (q .right) true r₁ → Cofactor ns i (q .left) false l₀ → Cofactor ns i (q .right) false r₀
+    → Right-at parts ns (suc i) (question (q .operation) l₁ r₁) fit → Right-at parts ns (suc i) (question (q .operation) l₀ r₀) out → Asked parts ns ts i q → Allows ts (parts - i) (joined ns i fit out)
 allows-joined parts ns ts i q l₁ r₁ l₀ r₀ fit out low cl₁ cr₁ cl₀ cr₀ rf ro a = allows-ext ts (parts - i) (target ns i q) (joined ns i fit out) at (a .allowed)
   where
     at : (c : List Bool) → length c ≡ parts - i → target ns i q c ≡ joined ns i fit out c

@@ -32,7 +32,7 @@ module _ (parts : ℕ) (ns : List Node) (ws : List ℤ) (long : parts ≤ length
   tail-up zero i j q e h f t = let k : i ≡ j = omega arith in subst (λ z. Tail parts ns ws z q) k t
   tail-up (suc d) i j q e h f t =
       tail-up d (suc i) j q (omega arith) h f
-        (λ o c k. sym (value-up ns i (q .left .child) false c (from-lower ns (suc i) j (q .left .child) (omega arith) f)) ∙ (t o (false ∷ c) (omega arith) ∙ (sum-at ws i false c (omega arith) ∙ +ℤ-idl _)))
+      (λ o c k. sym (value-up ns i (q .left .child) false c (from-lower ns (suc i) j (q .left .child) (omega arith) f)) ∙ (t o (false ∷ c) (omega arith) ∙ (sum-at ws i false c (omega arith) ∙ +ℤ-idl _)))
 
   -- both are 0 where all parts are left out
   apart : (a b x v s v₀ s₀ : ℤ) → a +ℤ (x +ℤ s) ≡ b +ℤ v → a +ℤ (x +ℤ s₀) ≡ b +ℤ v₀ → v₀ ≡ pos 0 → s₀ ≡ pos 0 → v ≡ s
@@ -44,7 +44,7 @@ module _ (parts : ℕ) (ns : List Node) (ws : List ℤ) (long : parts ≤ length
       let c₀ : List Bool = replicate (parts - suc i) false in
       let l : length c₀ ≡ parts - suc i = length-replicate (parts - suc i) false in
       apart (q .left .constant) (r .left .constant) (cond x (getD ws i (pos 0)) (pos 0)) _ _ (value ns (suc i) (r .left .child) c₀) (sum (drop (suc i) ws) c₀)
-        (at o′ c k) (at o′ c₀ (omega arith)) (value-out ns (parts - suc i) (suc i) (r .left .child)) (sum-out (drop (suc i) ws) (parts - suc i))
+      (at o′ c k) (at o′ c₀ (omega arith)) (value-out ns (parts - suc i) (suc i) (r .left .child)) (sum-out (drop (suc i) ws) (parts - suc i))
     where
       at : (q .operation ≡ Times → ⊥) → (d : List Bool) → suc i + length d ≡ parts → q .left .constant +ℤ (cond x (getD ws i (pos 0)) (pos 0) +ℤ sum (drop (suc i) ws) d) ≡ r .left .constant +ℤ value ns (suc i) (r .left .child) d
       at o′ d h = ap (λ z. q .left .constant +ℤ z) (sym (t o′ (x ∷ d) (omega arith) ∙ sum-at ws i x d (omega arith))) ∙ s .left .equal d
@@ -69,8 +69,8 @@ decided parts ns q e low high p h f most all d = record {
   right = λ i fl fr. record {
     from = subst (From ns i) (sym (d .child-is)) tt;
     equal = λ c k.
-      let l = most i fl in
-      let b = values-down (λ v. (low ≤ℤ v) × (v ≤ℤ high)) parts ns (q .left .child) (p - i) i p (omega arith) h f all c k in
-      edge-constant ns i e c (d .child-is) ∙ (d .equal (value ns i (q .left .child) c) (b .0) (b .1) ∙ ap (meaning (q .operation) (edge-at ns i (q .left) c)) (sym (edge-constant ns i (q .right) c (d .right-is))));
+        let l = most i fl in
+        let b = values-down (λ v. (low ≤ℤ v) × (v ≤ℤ high)) parts ns (q .left .child) (p - i) i p (omega arith) h f all c k in
+        edge-constant ns i e c (d .child-is) ∙ (d .equal (value ns i (q .left .child) c) (b .0) (b .1) ∙ ap (meaning (q .operation) (edge-at ns i (q .left) c)) (sym (edge-constant ns i (q .right) c (d .right-is))));
   };
 }

@@ -58,5 +58,4 @@ impl Refusal {
 /// Words and choices stand for each other.
 pub fn words_are_choices()
     ensures { λ _. ⌜ Words-are-choices ⌝ }
-{
-}
+{}

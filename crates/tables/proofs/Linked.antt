@@ -57,7 +57,12 @@ module _ (xs : List Place) (h v : ℕ) (l : h < length xs) where
 -- a node more
 pub pushed : (xs ys zs : List Place) (len h : ℕ) (n : Node) → len < length xs → h < length xs → h ≡ hashed (length xs) n → ys ≡ with-node xs len n (head-at xs h) → zs ≡ with-head ys h (len + 1) → Chained xs len → Chained zs (len + 1)
 pushed xs ys zs len h n l lh eh ey ez c = subst (λ m. Chains m (len + 1) (head-at zs) (λ k. hashed m (node-at zs k)) (next-at zs)) (sym size) (more-chains (length xs) len h (head-at xs) (head-at zs) (λ k. hashed (length xs) (node-at xs k)) (λ k. hashed (length xs) (node-at zs k)) (next-at xs) (next-at zs) (record {
-  low = c .low; hit = c .hit; last = c .last; nlow = c .nlow; nhit = c .nhit; nlast = c .nlast;
+  low = c .low;
+  hit = c .hit;
+  last = c .last;
+  nlow = c .nlow;
+  nhit = c .nhit;
+  nlast = c .nlast;
   small = lh;
   oldN = λ k kl. ap (hashed (length xs)) (ap (λ z. node-at z k) ez ∙ (head-node ys h (len + 1) ly k ∙ ap (λ p. p .node) (old k kl)));
   oldX = λ k kl. ap (λ z. next-at z k) ez ∙ (head-next ys h (len + 1) ly k ∙ ap (λ p. p .next) (old k kl));
@@ -69,21 +74,31 @@ pushed xs ys zs len h n l lh eh ey ez c = subst (λ m. Chains m (len + 1) (head-
   where
     written : Place
     written = record { node = n; next = head-at xs h; head = getD xs len none .head }
+
     size-y : length ys ≡ length xs
     size-y = ap length ey ∙ length-set xs len _
+
     size : length zs ≡ length xs
     size = ap length ez ∙ (length-set ys h _ ∙ size-y)
+
     ly : h < length ys
     ly = let s = size-y in omega arith
+
     old : (k : ℕ) → k < len → getD ys k none ≡ getD xs k none
     old k kl = ap (λ z. getD z k none) ey ∙ getD-set-other xs len k written none (λ e. omega arith)
+
     new : getD ys len none ≡ written
     new = ap (λ z. getD z len none) ey ∙ getD-set-same xs len written none l
 
 -- the last goes
 pub popped : (xs zs : List Place) (len h : ℕ) → len < length xs → h < length xs → h ≡ hashed (length xs) (node-at xs len) → zs ≡ with-head xs h (next-at xs len) → Chained xs (len + 1) → Chained zs len
 popped xs zs len h l lh eh ez c = subst (λ m. Chains m len (head-at zs) (λ k. hashed m (node-at zs k)) (next-at zs)) (sym size) (fewer-chains (length xs) len (head-at xs) (head-at zs) (λ k. hashed (length xs) (node-at xs k)) (λ k. hashed (length xs) (node-at zs k)) (next-at xs) (next-at zs) (record {
-  low = c .low; hit = c .hit; last = c .last; nlow = c .nlow; nhit = c .nhit; nlast = c .nlast;
+  low = c .low;
+  hit = c .hit;
+  last = c .last;
+  nlow = c .nlow;
+  nhit = c .nhit;
+  nlast = c .nlast;
   oldN = λ k kl. ap (hashed (length xs)) (ap (λ z. node-at z k) ez ∙ head-node xs h (next-at xs len) lh k);
   oldX = λ k kl. ap (λ z. next-at z k) ez ∙ head-next xs h (next-at xs len) lh k;
   newH = ap (head-at zs) (sym eh) ∙ (ap (λ z. head-at z h) ez ∙ head-new xs h (next-at xs len) lh);
@@ -131,6 +146,7 @@ made-all xs used to l = all to (nodes-of (take used xs)) (let a = short xs used 
     short xs zero = omega arith
     short [] (suc k) = omega arith
     short (x ∷ xs) (suc k) = let h = short xs k in omega arith
+
     all : (k : ℕ) (ns : List Node) → length ns ≤ k → take k ns ≡ ns
     all zero [] h = refl
     all zero (n ∷ ns) h = absurd (omega arith)

@@ -111,6 +111,7 @@ top-is parts ns sound few q fl fr opened fit = at (q .left .child) (q .right .ch
           right-in = subst (From ns j) (sym er) (from-lower ns j (part-at ns r) r (omega arith) (from-part ns r gr));
           most = λ i a b. most i (subst (From ns i) el a) (subst (From ns i) er b);
         })
+
     at : (l r : Child) → q .left .child ≡ l → q .right .child ≡ r → From ns 0 l → From ns 0 r → Top parts ns q (min (part-at ns (q .left .child)) (part-at ns (q .right .child)))
     at Terminal Terminal el er gl gr = absurd (opened el er fit)
     at Terminal (Place k) el er gl gr = let h = part-low parts ns sound k gr in build Terminal (Place k) el er gl gr (omega arith) (λ i a b. let m = most-part ns k i b in omega arith)

@@ -67,7 +67,11 @@ fn hash(n: Node, buckets: usize) -> usize
     ensures below { λ r. ⌜ r < buckets ⌝ }
 {
     let value = n.value.unsigned_abs() as usize;
-    (number(n.left) * 97_787_311 + number(n.right) * 161_800_127 + value * 57_721_583 + n.part as usize) % buckets
+    (number(n.left) * 97_787_311
+        + number(n.right) * 161_800_127
+        + value * 57_721_583
+        + n.part as usize)
+        % buckets
 }
 
 // Puts a node with its link into a place.
@@ -76,7 +80,11 @@ fn write(places: &mut [Place], i: usize, n: Node, next: u32)
     ensures { λ _. ⌜ now (places .exit) ≡ with-node (now (places .entry)) i n next ⌝ }
 {
     let head = places[i].head;
-    places[i] = Place { node: n, next, head };
+    places[i] = Place {
+        node: n,
+        next,
+        head,
+    };
 }
 
 // Sets the last node of a bucket.

@@ -17,7 +17,7 @@ returns-in-Break-k c = λ parts ts table m.
     let d : c .args .fit ≡ c .args .out → ⊥ = search needs in
     let p = c .in-Break-k .ensures tt in
     subst (Made parts ts (c .args .self .now) (c .push .last .self) (c .args .part) (c .args .fit) (c .args .out)) (sym (c .from-residual .ensures))
-      (make-full parts ts (c .args .self .now) table (c .args .part) (c .args .fit) (c .args .out) m _ (sym (c .node-of-n .ensures)) d (c .in-rest .ensures tt) (c .push .last .self) (p .fits) (p .places) (p .done .0) (p .done .1))
+    (make-full parts ts (c .args .self .now) table (c .args .part) (c .args .fit) (c .args .out) m _ (sym (c .node-of-n .ensures)) d (c .in-rest .ensures tt) (c .push .last .self) (p .fits) (p .places) (p .done .0) (p .done .1))
 
 pub returns : need.returns
 returns c = λ parts ts table m.
