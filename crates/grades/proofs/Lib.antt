@@ -1,2 +1,3 @@
 pub mod Optimal
 pub mod Lawful
+pub mod Sizes

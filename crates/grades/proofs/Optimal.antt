@@ -11,7 +11,7 @@ use Rattle.std.specs.declared.option.Option.the-variants.{Some, None}
 use Rattle.std.proofs.shelf.Tests.{both-ways, cases-bool}
 use Rattle.grades.specs.Laws.{Kind, Laws}
 use Rattle.grades.specs.Rule.{grade, grade-from, best, chosen, answer, left-out, put-on}
-use Rattle.grades.specs.Optimal.{First, None-passes, Answers, Rule-is-first, Best, Settled, Rule-settles}
+use Rattle.grades.specs.Optimal.{First, None-passes, Answers, Rule-is-first, Best, Settled, Rule-settles, Best-is-best}
 
 module _ {G : Type 0} (K : Kind G) (laws : Laws K) where
   grade-from-is : (g : G) (ws : List G) (c : List Bool) → grade-from K g ws c ≡ K .join g (grade K ws c)
@@ -117,6 +117,13 @@ module _ {G : Type 0} (K : Kind G) (laws : Laws K) where
       (rw (g .graded) at (f .1 c (g .sized) (g .kept)))
       (rw (f .0 .3) at (g .least (f .0 .0) (f .0 .1) (f .0 .2))))
 
+  best-is : (ws : List G) (passes : List Bool → Bool) → Best K ws passes (best K ws passes)
+  best-is ws passes = at (best K ws passes) (ends ws passes)
+    where
+      at : (o : Option G) → Ends ws passes o (chosen K ws passes) → Best K ws passes o
+      at None f = f
+      at (Some g) f = ((chosen K ws passes, f .sized, f .kept, f .graded), f .least)
+
   settled : (ws : List G) (passes : List Bool → Bool) → Settled K ws passes (chosen K ws passes)
   settled [] passes = tt
   settled (w ∷ ws) passes = at (left-out K (best K ws out) (put-on K w (best K ws fit))) refl (settled ws out) (settled ws fit)
@@ -136,6 +143,9 @@ module _ {G : Type 0} (K : Kind G) (laws : Laws K) where
 
 pub rule-is-first : {G : Type 0} (K : Kind G) → Laws K → Rule-is-first K
 rule-is-first K laws ws passes = answers K laws ws passes
+
+pub best-is-best : {G : Type 0} (K : Kind G) → Laws K → Best-is-best K
+best-is-best K laws ws passes = best-is K laws ws passes
 
 pub rule-settles : {G : Type 0} (K : Kind G) → Laws K → Rule-settles K
 rule-settles K laws ws passes = settled K laws ws passes

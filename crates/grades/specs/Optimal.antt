@@ -2,7 +2,9 @@
 use mathlib.Core.List.{List, [], _∷_}
 use mathlib.Core.Bool.{Bool, true, false, not}
 use mathlib.Core.Path.{_≡_}
+use Prim.Native.Nat.{ℕ, _≤_}
 use lib.ListN.{length}
+use Rattle.std.specs.shelf.Lists.{All}
 use Rattle.std.specs.declared.option.Option.{Option}
 use Rattle.std.specs.declared.option.Option.the-variants.{Some, None}
 use Rattle.grades.specs.Laws.{Kind}
@@ -46,3 +48,12 @@ Settled {G = G} K (w ∷ ws) passes (x ∷ c) =
 -- the rule's choice is settled so
 abbrev pub Rule-settles : {G : Type 0} → Kind G → Type 0
 Rule-settles {G} K = (ws : List G) (passes : List Bool → Bool) → Settled K ws passes (chosen K ws passes)
+
+-- the best grade that is computed is the best grade
+abbrev pub Best-is-best : {G : Type 0} → Kind G → Type 0
+Best-is-best {G} K = (ws : List G) (passes : List Bool → Bool) → Best K ws passes (best K ws passes)
+
+-- the grade of a choice among at most 48 parts, with weights in range, has a size of at most 48,000,000
+abbrev pub Sizes-stay : {G : Type 0} → Kind G → Type 0
+Sizes-stay {G} K =
+    (ws : List G) (c : List Bool) → length ws ≤ 48 → All (λ w. K .size w ≤ 1000000) ws → K .size (grade K ws c) ≤ 48000000

@@ -5,7 +5,7 @@ ghost use lib.IntN.{ℤ};
 ghost use Rattle.std.specs.Options.{Cases};
 ghost use Rattle.grades.specs.Laws.{Kind, Laws};
 ghost use Rattle.grades.specs.Kinds.{Priced, priced, mass-kind, wait-kind, mass-price-kind};
-ghost use Rattle.grades.specs.Optimal.{Rule-is-first, Rule-settles};
+ghost use Rattle.grades.specs.Optimal.{Rule-is-first, Rule-settles, Best-is-best, Sizes-stay};
 
 /// A kind of grade.
 pub trait Grade: Copy {
@@ -207,4 +207,14 @@ pub fn rule_is_first<G: Grade>()
 /// For every lawful kind, the rule's choice is settled part by part, from part 0 up.
 pub fn rule_settles<G: Grade>()
     ensures { λ _. ⌜ Rule-settles kind ⌝ }
+{}
+
+/// For every lawful kind, the best grade is least among the grades of all choices that keep all limits.
+pub fn best_is_best<G: Grade>()
+    ensures { λ _. ⌜ Best-is-best kind ⌝ }
+{}
+
+/// For every lawful kind, grades of choices among 48 parts stay within the sizes whose join is exact.
+pub fn sizes_stay<G: Grade>()
+    ensures { λ _. ⌜ Sizes-stay kind ⌝ }
 {}
