@@ -76,20 +76,20 @@ pub needed-are : Needed-are
 needed-are n f t = (needed-to n f t, λ d. subst (λ u. In u (needed n f)) (sym (d .is)) (needed-in (d .settled) n (d .later) f (d .shown-by) (d .parts) (d .shown-size) (d .differs)))
 
 -- the product of the limits, times f
-product-from : List Limit → (List Bool → ℤ) → List Bool → ℤ
+unfoldable pub product-from : List Limit → (List Bool → ℤ) → List Bool → ℤ
 product-from [] f = f
 product-from (l ∷ ls) f = product-from ls (λ c. f c *ℤ indicator (keeps l c))
 
-built-more : (ls more : List Limit) (f : List Bool → ℤ) → built (ls ++ more) f ≡ built ls f ++ built more (product-from ls f)
+pub built-more : (ls more : List Limit) (f : List Bool → ℤ) → built (ls ++ more) f ≡ built ls f ++ built more (product-from ls f)
 unfolding product-from
 built-more [] more f = refl
 built-more (l ∷ ls) more f = ap (λ fs. sum (l .coefficients) ∷ ((λ c. indicator (keeps l c)) ∷ ((λ c. f c *ℤ indicator (keeps l c)) ∷ fs))) (built-more ls more (λ c. f c *ℤ indicator (keeps l c)))
 
-needed-more : (n : ℕ) (fs gs : List (List Bool → ℤ)) → needed-all n (fs ++ gs) ≡ needed-all n fs ++ needed-all n gs
+pub needed-more : (n : ℕ) (fs gs : List (List Bool → ℤ)) → needed-all n (fs ++ gs) ≡ needed-all n fs ++ needed-all n gs
 needed-more n [] gs = refl
 needed-more n (f ∷ fs) gs = ap (λ ts. needed n f ++ ts) (needed-more n fs gs) ∙ sym (append-assoc (needed n f) (needed-all n fs) (needed-all n gs))
 
-once-less : (ts us : List (List ℤ)) → ((t : List ℤ) → In t ts → In t us) → length (once ts) ≤ length (once us)
+pub once-less : (ts us : List (List ℤ)) → ((t : List ℤ) → In t ts → In t us) → length (once ts) ≤ length (once us)
 once-less ts us h = no-more (once ts) (once us) (once-apart ts) (λ t m. in-once us t (h t (once-in ts t m)))
 
 pub more-need-no-fewer : More-need-no-fewer

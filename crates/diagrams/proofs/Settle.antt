@@ -55,7 +55,7 @@ from-next ns i k (Place j) n at f p h =
     less : (a b : ℕ) → b ≤ a → (a ≡ b) ⊎ (suc b ≤ a)
     less a b h = ⊎-elim (λ e. inl e) (⊎-elim (λ e. absurd (omega arith)) (λ e. inr e)) (Rattle.std.proofs.shelf.Tests.cases-order a b)
 
-value-terminal : (ns : List Node) (i : ℕ) (c : List Bool) → value ns i Terminal c ≡ pos 0
+pub value-terminal : (ns : List Node) (i : ℕ) (c : List Bool) → value ns i Terminal c ≡ pos 0
 value-terminal ns i [] = refl
 value-terminal ns i (x ∷ c) = value-terminal ns (suc i) c
 

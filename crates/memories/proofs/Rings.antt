@@ -21,9 +21,9 @@ set-tells xs i k x y at = ⊎-elim there (λ n. inl (sym (getD-set-other xs i k 
     there : k ≡ i → (getD xs k None ≡ y) ⊎ ((k ≡ i) × (x ≡ y))
     there same =
         ⊎-elim
-          (λ t. inr (same, sym (getD-set-same xs i x None t) ∙ (sym (ap (λ m. getD (set xs i x) m None) same) ∙ at)))
-          (λ t. inl (sym (ap (λ l. getD l k None) (set-out xs i x t)) ∙ at))
-          (cases-lt i (length xs))
+        (λ t. inr (same, sym (getD-set-same xs i x None t) ∙ (sym (ap (λ m. getD (set xs i x) m None) same) ∙ at)))
+        (λ t. inl (sym (ap (λ l. getD l k None) (set-out xs i x t)) ∙ at))
+        (cases-lt i (length xs))
 
 same-pair : (p q : Question) (f e : Edge) → Some (pair q e) ≡ Some (pair p f) → (p ≡ q) × (f ≡ e)
 same-pair p q f e new = let pairs : pair q e ≡ pair p f = cc in (ap (λ h. h .question) (sym pairs), ap (λ h. h .edge) (sym pairs))
@@ -31,9 +31,9 @@ same-pair p q f e new = let pairs : pair q e ≡ pair p f = cc in (ap (λ h. h .
 pub ring-set : (xs : List (Option Remembered)) (i : ℕ) (q : Question) (e : Edge) (p : Question) (f : Edge) → In-ring (set xs i (Some (pair q e))) p f → In-ring xs p f ⊎ ((p ≡ q) × (f ≡ e))
 ring-set xs i q e p f (k, at) =
     ⊎-elim
-      (λ old. inl (k, old))
-      (λ new. inr (same-pair p q f e (new .1)))
-      (set-tells xs i k (Some (pair q e)) (Some (pair p f)) at)
+    (λ old. inl (k, old))
+    (λ new. inr (same-pair p q f e (new .1)))
+    (set-tells xs i k (Some (pair q e)) (Some (pair p f)) at)
 
 pub never : {A : Type 0} (x : Option Remembered) (h : Remembered) → x ≡ None → x ≡ Some h → A
 never x h p q = let z : _≡_ {A = ℕ} 0 1 = cc in absurd (omega arith)
@@ -61,9 +61,9 @@ slot-set xs q e p f (some, at) =
     let l : length (set xs (question-hash q % length xs) (Some (pair q e))) ≡ length xs = length-set xs (question-hash q % length xs) (Some (pair q e)) in
     let h : 0 < length xs = omega arith in
     ⊎-elim
-      (λ old. inl (h, ap (λ n. getD xs (question-hash p % n) None) (sym l) ∙ old))
-      (λ new. inr (same-pair p q f e (new .1)))
-      (set-tells xs (question-hash q % length xs) (question-hash p % length (set xs (question-hash q % length xs) (Some (pair q e)))) (Some (pair q e)) (Some (pair p f)) at)
+    (λ old. inl (h, ap (λ n. getD xs (question-hash p % n) None) (sym l) ∙ old))
+    (λ new. inr (same-pair p q f e (new .1)))
+    (set-tells xs (question-hash q % length xs) (question-hash p % length (set xs (question-hash q % length xs) (Some (pair q e)))) (Some (pair q e)) (Some (pair p f)) at)
 
 pub slot-set-empty : (xs : List (Option Remembered)) (i : ℕ) (x : Option Remembered) → length xs ≤ 0 → xs ≡ set xs i x
 slot-set-empty [] i x l = refl

@@ -1,0 +1,6 @@
+pub mod Sums
+pub mod Grown
+pub mod Kept
+pub mod Ready
+pub mod Ranges
+pub mod Closing

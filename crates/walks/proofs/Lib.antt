@@ -1,0 +1,9 @@
+pub mod Once
+pub mod Sum
+pub mod Three
+pub mod Whole
+pub mod Frames
+pub mod Turns
+pub mod Alone
+pub mod Ranged
+pub mod Squared

@@ -1,0 +1,4 @@
+pub mod Walked
+pub mod Stack
+pub mod Looks
+pub mod Extended
