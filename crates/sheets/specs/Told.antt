@@ -1,6 +1,6 @@
 -- What a sheet says. Each definition here can be computed.
 use mathlib.Core.Bool.{Bool, cond}
-use mathlib.Core.List.{List, [], _∷_, _++_}
+use mathlib.Core.List.{List, [], _∷_, _++_, map}
 use Prim.Native.Nat.{ℕ, zero, suc, min}
 use lib.ListN.{length, set, replicate}
 use lib.IntN.{ℤ, pos}
@@ -11,6 +11,7 @@ use Rattle.limits.specs.declared.Limit.{Limit}
 use Rattle.limits.specs.declared.Sense.{Sense}
 use Rattle.limits.specs.declared.drafts.Term.{Term}
 use Rattle.limits.specs.Refusals.{Reply, done, refused}
+use Rattle.grades.specs.Kinds.{Priced, priced}
 use Rattle.records.specs.declared.Goal.{Goal}
 use Rattle.records.specs.declared.Goal.the-variants.{Mass}
 use Rattle.records.specs.declared.Stage.{Stage}
@@ -24,6 +25,16 @@ pub record Part : Type 0 where
   pub mass : ℤ
   pub wait : ℕ
   pub price : ℕ
+
+-- the weights of parts by mass, by wait, and by mass with price
+abbrev pub masses-of : List Part → List ℤ
+masses-of ps = map (λ (p : Part). p .mass) ps
+
+abbrev pub waits-of : List Part → List ℕ
+waits-of ps = map (λ (p : Part). p .wait) ps
+
+abbrev pub costs-of : List Part → List Priced
+costs-of ps = map (λ (p : Part). priced (p .mass) (p .price)) ps
 
 -- what the records read so far say
 pub record Told : Type 0 where
