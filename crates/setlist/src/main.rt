@@ -3,6 +3,7 @@ use set_chooser::Mass;
 use set_chooser::MassPrice;
 use set_chooser::Place;
 use set_chooser::Row;
+use set_chooser::RowClone;
 use set_chooser::RowTables;
 use set_chooser::Slots;
 use set_chooser::SlotsMemory;
