@@ -1,0 +1,28 @@
+//! Worked examples, run through the calls that makers reach.
+use set_chooser::Draft;
+use set_chooser::Job;
+use set_chooser::Memory;
+use set_chooser::Refusal;
+use set_chooser::Sense;
+use set_chooser::Side;
+use set_chooser::Term;
+
+/// A part and its coefficient.
+pub const fn term(part: u8, coefficient: i32) -> Term {
+    Term { part, coefficient }
+}
+
+/// Closes a limit of these terms.
+pub fn close<M: Memory>(job: &mut Job, terms: &[Term], sense: Sense, bound: i32, memory: &mut M) -> Result<(), Refusal> {
+    let mut draft = Draft::open();
+    for t in terms {
+        if let Err(refusal) = draft.term(*t) {
+            draft.scrap();
+            return Err(refusal);
+        }
+    }
+    job.close(draft, Side { sense, bound }, memory)
+}
+
+#[cfg(test)]
+mod tests;
