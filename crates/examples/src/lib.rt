@@ -13,7 +13,13 @@ pub const fn term(part: u8, coefficient: i32) -> Term {
 }
 
 /// Closes a limit of these terms.
-pub fn close<M: Memory>(job: &mut Job, terms: &[Term], sense: Sense, bound: i32, memory: &mut M) -> Result<(), Refusal> {
+pub fn close<M: Memory>(
+    job: &mut Job,
+    terms: &[Term],
+    sense: Sense,
+    bound: i32,
+    memory: &mut M,
+) -> Result<(), Refusal> {
     let mut draft = Draft::open();
     for t in terms {
         if let Err(refusal) = draft.term(*t) {

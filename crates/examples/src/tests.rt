@@ -29,16 +29,25 @@ fn at_most_one_of_two() -> Result<(), Fail> {
     let mut four = [Place::EMPTY; 4];
     let mut job = Job::new(&mut four);
     check_eq(job.begin(2), Ok(()))?;
-    check_eq(close(&mut job, &both, Sense::AtMost, 1, &mut NoMemory::new()), Ok(()))?;
+    check_eq(
+        close(&mut job, &both, Sense::AtMost, 1, &mut NoMemory::new()),
+        Ok(()),
+    )?;
     check_eq(job.used(), 4)?;
-    check_eq(close(&mut job, &both, Sense::AtMost, 1, &mut NoMemory::new()), Ok(()))?;
+    check_eq(
+        close(&mut job, &both, Sense::AtMost, 1, &mut NoMemory::new()),
+        Ok(()),
+    )?;
     check_eq(job.used(), 4)?;
     check_eq(job.take_back(), Ok(()))?;
     check_eq(job.check(Choice(3)), Ok(Some(0)))?;
     let mut three = [Place::EMPTY; 3];
     let mut small = Job::new(&mut three);
     check_eq(small.begin(2), Ok(()))?;
-    check_eq(close(&mut small, &both, Sense::AtMost, 1, &mut Latest::new()), Err(Refusal::TooFewPlaces))
+    check_eq(
+        close(&mut small, &both, Sense::AtMost, 1, &mut Latest::new()),
+        Err(Refusal::TooFewPlaces),
+    )
 }
 
 // One part at most 1 needs one node, at most 0 two, and a limit without terms none.
@@ -48,20 +57,35 @@ fn limits_of_one_part() -> Result<(), Fail> {
     let mut places = [Place::EMPTY; 8];
     let mut job = Job::new(&mut places);
     check_eq(job.begin(1), Ok(()))?;
-    check_eq(close(&mut job, &one, Sense::AtMost, 1, &mut NoMemory::new()), Ok(()))?;
+    check_eq(
+        close(&mut job, &one, Sense::AtMost, 1, &mut NoMemory::new()),
+        Ok(()),
+    )?;
     check_eq(job.used(), 1)?;
     check_eq(job.begin(1), Ok(()))?;
-    check_eq(close(&mut job, &one, Sense::AtMost, 0, &mut NoMemory::new()), Ok(()))?;
+    check_eq(
+        close(&mut job, &one, Sense::AtMost, 0, &mut NoMemory::new()),
+        Ok(()),
+    )?;
     check_eq(job.used(), 2)?;
     check_eq(job.begin(1), Ok(()))?;
-    check_eq(close(&mut job, &[], Sense::AtMost, 0, &mut NoMemory::new()), Ok(()))?;
+    check_eq(
+        close(&mut job, &[], Sense::AtMost, 0, &mut NoMemory::new()),
+        Ok(()),
+    )?;
     check_eq(job.used(), 0)
 }
 
 // The limits of the four-part set: what is drawn against what the packs give, at most one pack, at least one of the others.
 fn four_parts<M: Memory>(job: &mut Job, memory: &mut M) -> Result<(), Refusal> {
     job.begin(4)?;
-    close(job, &[term(0, -20), term(1, -10), term(2, 12), term(3, 9)], Sense::AtMost, 0, memory)?;
+    close(
+        job,
+        &[term(0, -20), term(1, -10), term(2, 12), term(3, 9)],
+        Sense::AtMost,
+        0,
+        memory,
+    )?;
     close(job, &[term(0, 1), term(1, 1)], Sense::AtMost, 1, memory)?;
     close(job, &[term(2, 1), term(3, 1)], Sense::AtLeast, 1, memory)
 }
@@ -84,13 +108,34 @@ fn soonest(job: &Job, rows: &mut [Row<Wait>]) -> Result<Option<(u64, u32)>, Refu
 #[test]
 fn four_parts_by_mass() -> Result<(), Fail> {
     let mut places = [Place::EMPTY; 64];
-    let mut rows = [Row { zero: None, one: None }; 64];
+    let mut rows = [Row {
+        zero: None,
+        one: None,
+    }; 64];
     let mut job = Job::new(&mut places);
     check_eq(four_parts(&mut job, &mut Latest::new()), Ok(()))?;
     check_eq(lightest(&job, &mut rows), Ok(Some((10, 125))))?;
-    check_eq(close(&mut job, &[term(3, 1)], Sense::AtMost, 0, &mut NoMemory::new()), Ok(()))?;
+    check_eq(
+        close(
+            &mut job,
+            &[term(3, 1)],
+            Sense::AtMost,
+            0,
+            &mut NoMemory::new(),
+        ),
+        Ok(()),
+    )?;
     check_eq(lightest(&job, &mut rows), Ok(Some((5, 220))))?;
-    check_eq(close(&mut job, &[term(0, 1)], Sense::AtMost, 0, &mut NoMemory::new()), Ok(()))?;
+    check_eq(
+        close(
+            &mut job,
+            &[term(0, 1)],
+            Sense::AtMost,
+            0,
+            &mut NoMemory::new(),
+        ),
+        Ok(()),
+    )?;
     check_eq(lightest(&job, &mut rows), Ok(None))?;
     check_eq(job.take_back(), Ok(()))?;
     check_eq(lightest(&job, &mut rows), Ok(Some((5, 220))))
@@ -100,7 +145,10 @@ fn four_parts_by_mass() -> Result<(), Fail> {
 #[test]
 fn four_parts_by_wait() -> Result<(), Fail> {
     let mut places = [Place::EMPTY; 64];
-    let mut rows = [Row { zero: None, one: None }; 64];
+    let mut rows = [Row {
+        zero: None,
+        one: None,
+    }; 64];
     let mut job = Job::new(&mut places);
     check_eq(four_parts(&mut job, &mut NoMemory::new()), Ok(()))?;
     check_eq(soonest(&job, &mut rows), Ok(Some((5, 3))))
@@ -110,19 +158,70 @@ fn four_parts_by_wait() -> Result<(), Fail> {
 #[test]
 fn refusals_of_a_job() -> Result<(), Fail> {
     let mut places = [Place::EMPTY; 8];
-    let mut rows: [Row<Mass>; 8] = [Row { zero: None, one: None }; 8];
+    let mut rows: [Row<Mass>; 8] = [Row {
+        zero: None,
+        one: None,
+    }; 8];
     let mut job = Job::new(&mut places);
     check_eq(job.begin(49), Err(Refusal::PartOutOfRange))?;
     check_eq(job.begin(2), Ok(()))?;
     check_eq(job.take_back(), Err(Refusal::NothingStands))?;
-    check_eq(close(&mut job, &[term(48, 1)], Sense::AtMost, 0, &mut NoMemory::new()), Err(Refusal::PartOutOfRange))?;
-    check_eq(close(&mut job, &[term(1, 1), term(1, 1)], Sense::AtMost, 0, &mut NoMemory::new()), Err(Refusal::PartNotRising))?;
-    check_eq(close(&mut job, &[term(1, 1_000_001)], Sense::AtMost, 0, &mut NoMemory::new()), Err(Refusal::OutOfRange))?;
-    check_eq(close(&mut job, &[term(2, 0)], Sense::AtMost, 0, &mut NoMemory::new()), Err(Refusal::PartOutOfRange))?;
-    check_eq(close(&mut job, &[], Sense::AtMost, 100_000_001, &mut NoMemory::new()), Err(Refusal::OutOfRange))?;
+    check_eq(
+        close(
+            &mut job,
+            &[term(48, 1)],
+            Sense::AtMost,
+            0,
+            &mut NoMemory::new(),
+        ),
+        Err(Refusal::PartOutOfRange),
+    )?;
+    check_eq(
+        close(
+            &mut job,
+            &[term(1, 1), term(1, 1)],
+            Sense::AtMost,
+            0,
+            &mut NoMemory::new(),
+        ),
+        Err(Refusal::PartNotRising),
+    )?;
+    check_eq(
+        close(
+            &mut job,
+            &[term(1, 1_000_001)],
+            Sense::AtMost,
+            0,
+            &mut NoMemory::new(),
+        ),
+        Err(Refusal::OutOfRange),
+    )?;
+    check_eq(
+        close(
+            &mut job,
+            &[term(2, 0)],
+            Sense::AtMost,
+            0,
+            &mut NoMemory::new(),
+        ),
+        Err(Refusal::PartOutOfRange),
+    )?;
+    check_eq(
+        close(
+            &mut job,
+            &[],
+            Sense::AtMost,
+            100_000_001,
+            &mut NoMemory::new(),
+        ),
+        Err(Refusal::OutOfRange),
+    )?;
     check_eq(job.check(Choice(4)), Err(Refusal::PartOutOfRange))?;
     check(job.solve(&[1], &mut Rows::new(&mut rows)).is_err())?;
-    check(job.solve(&[1, 1_000_001], &mut Rows::new(&mut rows)).is_err())
+    check(
+        job.solve(&[1, 1_000_001], &mut Rows::new(&mut rows))
+            .is_err(),
+    )
 }
 
 // Published unsigned LEB128 vectors, read and written.

@@ -84,7 +84,7 @@ module _ (parts : ℕ) (ls : List Limit) (l : Limit) (t : NodeTable) (p : Edge) 
   all-needed : needed-all parts (built (ls ++ (l ∷ [])) (λ c. pos 1)) ≡ before ++ limit-needs parts t p l
   all-needed =
       let third : needed parts (λ c. product-from ls (λ d. pos 1) c *ℤ indicator (keeps l c)) ≡ needed parts (λ c. (p .constant +ℤ value (made t) 0 (p .child) c) *ℤ indicator (keeps l c)) =
-          needed-ext parts _ _ (λ c e. ap (λ z. z *ℤ indicator (keeps l c)) (product-is ls (λ d. pos 1) true c refl ∙ sym (held .denotes c e))) in
+      needed-ext parts _ _ (λ c e. ap (λ z. z *ℤ indicator (keeps l c)) (product-is ls (λ d. pos 1) true c refl ∙ sym (held .denotes c e))) in
       ap (needed-all parts) (built-more ls (l ∷ []) (λ c. pos 1))
       ∙ (needed-more parts (built ls (λ c. pos 1)) (built (l ∷ []) (product-from ls (λ c. pos 1)))
       ∙ ap (λ u. before ++ (needed parts (sum (l .coefficients)) ++ (needed parts (λ c. indicator (keeps l c)) ++ u))) (append-nil _ ∙ third))
@@ -93,7 +93,7 @@ module _ (parts : ℕ) (ls : List Limit) (l : Limit) (t : NodeTable) (p : Edge) 
   in-all : (u : List ℤ) → In u (all-needs parts t p l) → In u (needed-all parts (built (ls ++ (l ∷ [])) (λ c. pos 1)))
   in-all u m = subst (In u) (sym all-needed) (⊎-elim
       (λ o. let h = old-node parts (made t) 0 (made t) u o in
-          in-left u before _ (subst (λ z. In z before) (sym (h .3 ∙ ap (λ j. node-table parts (made t) j (h .1)) (zero-add (h .0)))) (held .holds .no-other (h .0) (h .1) (h .2))))
+      in-left u before _ (subst (λ z. In z before) (sym (h .3 ∙ ap (λ j. node-table parts (made t) j (h .1)) (zero-add (h .0)))) (held .holds .no-other (h .0) (h .1) (h .2))))
       (λ w. in-right u before _ w)
       (in-either u (tables-from parts (made t) 0 (made t)) (limit-needs parts t p l) m))
 
@@ -113,7 +113,7 @@ module _ (parts : ℕ) (ls : List Limit) (l : Limit) (t : NodeTable) (p : Edge) 
         sound = x .table .sound;
         no-other = λ k n f. subst (In (node-table parts (made t′) k n)) (sym all-needed) (⊎-elim
             (λ h. let o : nth (made t) k ≡ Some n = sym (front (made t) (x .grown .more) k h) ∙ (ap (λ ns. nth ns k) (sym (x .grown .is)) ∙ f) in
-                in-left _ before _ (subst (λ z. In z before) (sym (same-table-of k n o)) (held .holds .no-other k n o)))
+            in-left _ before _ (subst (λ z. In z before) (sym (same-table-of k n o)) (held .holds .no-other k n o)))
             (λ h. in-right _ before _ (x .needed-only k n f h))
             (cases-lt k (length (made t))));
         each = λ u m. ⊎-elim

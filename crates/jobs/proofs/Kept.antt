@@ -66,11 +66,12 @@ records-kept : (parts : ℕ) (rs ss : List Record) (count : ℕ) → ((j : ℕ) 
 records-kept parts rs ss zero reads fronts ns b = b
 records-kept parts rs ss (suc k) reads fronts ns b =
     let r : getD ss k blank ≡ getD rs k blank = reads k (omega arith) in
-    let m : getD ss k blank .mark ≡ getD rs k blank .mark = ap (λ (x : Record). x .mark) r in
-    (subst (λ ls. Held parts (map (λ (x : Record). x .limit) ls) ns (getD ss k blank .product)) (sym (fronts (suc k) (omega arith)))
-       (subst (λ (x : Record). Held parts (limits-of rs (suc k)) ns (x .product)) (sym r) (b .0)),
-     omega (arith, b .1),
-     subst (λ u. Books parts (take u ns) ss k) (sym m) (records-kept parts rs ss k (λ j h. reads j (omega arith)) (λ j h. fronts j (omega arith)) (take (getD rs k blank .mark) ns) (b .2)))
+    let m : getD ss k blank .mark ≡ getD rs k blank .mark = ap (λ (x : Record). x .mark) r in (
+      subst (λ ls. Held parts (map (λ (x : Record). x .limit) ls) ns (getD ss k blank .product)) (sym (fronts (suc k) (omega arith)))
+          (subst (λ (x : Record). Held parts (limits-of rs (suc k)) ns (x .product)) (sym r) (b .0)),
+      omega (arith, b .1),
+      subst (λ u. Books parts (take u ns) ss k) (sym m) (records-kept parts rs ss k (λ j h. reads j (omega arith)) (λ j h. fronts j (omega arith)) (take (getD rs k blank .mark) ns) (b .2)),
+    )
 
 -- a limit more
 limits-more : (rs : List Record) (count : ℕ) (r : Record) → count < length rs → limits-of (set rs count r) (count + 1) ≡ limits-of rs count ++ (r .limit ∷ [])
@@ -81,11 +82,11 @@ books-more parts ns new rs count r inside front grows mark held b =
     let read : getD (set rs count r) count blank ≡ r = getD-set-same rs count r blank inside in
     let m : getD (set rs count r) count blank .mark ≡ length ns = ap (λ (x : Record). x .mark) read ∙ mark in
     let old : Books parts ns (set rs count r) count =
-        records-kept parts rs (set rs count r) count (λ j h. getD-set-other rs count j r blank (λ e. omega arith)) (λ j h. take-set-le j rs count r h) ns b in
+    records-kept parts rs (set rs count r) count (λ j h. getD-set-other rs count j r blank (λ e. omega arith)) (λ j h. take-set-le j rs count r h) ns b in
     let top : Held parts (limits-of (set rs count r) (suc count)) new (getD (set rs count r) count blank .product) =
-        subst (λ (x : Record). Held parts (limits-of (set rs count r) (suc count)) new (x .product)) (sym read)
-          (subst (λ j. Held parts (limits-of (set rs count r) j) new (r .product)) (add-one count)
-            (subst (λ ls. Held parts ls new (r .product)) (sym (limits-more rs count r inside)) held)) in
+    subst (λ (x : Record). Held parts (limits-of (set rs count r) (suc count)) new (x .product)) (sym read)
+    (subst (λ j. Held parts (limits-of (set rs count r) j) new (r .product)) (add-one count)
+    (subst (λ ls. Held parts ls new (r .product)) (sym (limits-more rs count r inside)) held)) in
     let whole : Books parts new (set rs count r) (suc count) = (top, omega arith, subst (λ u. Books parts (take u new) (set rs count r) count) (sym m) (subst (λ xs. Books parts xs (set rs count r) count) (sym front) old)) in
     subst (λ j. Books parts new (set rs count r) j) (sym (add-one count)) whole
 

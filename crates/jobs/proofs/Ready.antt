@@ -109,9 +109,10 @@ facts-prop parts ls ns e = ×-prop
     (×-prop (below-prop ns 0 (length ns) (e .child)) (Π-prop (λ c. Π-prop (λ l. ℤ-set _ _))))))
 
 facts-of : (parts : ℕ) (ls : List Limit) (ns : List Node) (e : Edge) → Held parts ls ns e → Facts parts ls ns e
-facts-of parts ls ns e h =
-    (λ k n q. (h .ordered .below k n q, (below-of ns (suc (n .part)) k (n .left) (h .ordered .left k n q), (below-of ns (suc (n .part)) k (n .right) (h .ordered .right k n q), h .small k n q))),
-     (h .holds .sound .reduced, (h .holds .sound .unique, (below-of ns 0 (length ns) (e .child) (h .under), h .denotes))))
+facts-of parts ls ns e h = (
+  λ k n q. (h .ordered .below k n q, (below-of ns (suc (n .part)) k (n .left) (h .ordered .left k n q), (below-of ns (suc (n .part)) k (n .right) (h .ordered .right k n q), h .small k n q))),
+  (h .holds .sound .reduced, (h .holds .sound .unique, (below-of ns 0 (length ns) (e .child) (h .under), h .denotes))),
+)
 
 bit-indicator : (b : Bool) → Bit (indicator b)
 bit-indicator true = inr refl
@@ -168,6 +169,7 @@ module _ (parts : ℕ) (ns : List Node) (rs : List Record) (count : ℕ) (e : Ed
     where
       same-answer : answer k vs (ones-of ns 0 (e .constant) (e .child)) ≡ answer k vs (keeps-all (limits-of rs count))
       same-answer = answer-ext k vs (ones-of ns 0 (e .constant) (e .child)) (keeps-all (limits-of rs count)) (λ c l. ap (λ z. same z (pos 1)) (is-product c (l ∙ size)) ∙ same-one (keeps-all (limits-of rs count) c))
+
       by : (r : Option (Answer G)) → Solved k means vs (ones-of ns 0 (e .constant) (e .child)) r → Solved k means vs (keeps-all (limits-of rs count)) r
       by None x = sym same-answer ∙ x
       by (Some a) x = (x .0, sym same-answer ∙ x .1, x .2, x .3)

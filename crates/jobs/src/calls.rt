@@ -84,7 +84,12 @@ impl<'a> Job<'a> {
     }
 
     /// Makes the draft a standing limit. The draft is spent, refused or not; a refused close leaves the job as it was.
-    pub fn close<M: Memory>(&mut self, draft: Draft, side: Side, memory: &mut M) -> Result<(), Refusal>
+    pub fn close<M: Memory>(
+        &mut self,
+        draft: Draft,
+        side: Side,
+        memory: &mut M,
+    ) -> Result<(), Refusal>
         ensures reply { λ r. ⌜ told r ≡ closed (places (now (self .entry))) (stands (now (self .entry))) (draft .last) (limit-from draft side) ⌝ }
         ensures stands { λ r. ⌜ stands (now (self .exit)) ≡ after-close (places (now (self .entry))) (stands (now (self .entry))) (draft .last) (limit-from draft side) ⌝ }
         ensures places { λ r. ⌜ places (now (self .exit)) ≡ places (now (self .entry)) ⌝ }
@@ -120,7 +125,11 @@ impl<'a> Job<'a> {
     }
 
     /// The rule's choice among those that keep all standing limits, with its grade; none if nothing fits.
-    pub fn solve<G: Grade>(&self, weights: &[G::Weight], rows: &mut Rows<G>) -> Result<Option<Answer<G>>, Refusal>
+    pub fn solve<G: Grade>(
+        &self,
+        weights: &[G::Weight],
+        rows: &mut Rows<G>,
+    ) -> Result<Option<Answer<G>>, Refusal>
         ensures reply { λ r. ⌜ told r ≡ asked kind (stands (now (self .entry))) (map weighs (now (weights .entry))) (length (now (now (rows .entry) .rows))) ⌝ }
         ensures answer { λ r. ⌜ Cases r (λ a. Solved kind means (map weighs (now (weights .entry))) (keeps-all (stands (now (self .entry)) .limits)) a) (λ _. now (rows .exit) ≡ now (rows .entry)) ⌝ }
         ensures named { λ _. ⌜ name (now (rows .exit) .rows) ≡ name (now (rows .entry) .rows) ⌝ }

@@ -35,7 +35,13 @@ pub extern "C" fn set_chooser_list(sheet: &[u8], out: &mut [u8]) -> i64 {
         wait: &mut wait,
         mass_price: &mut mass_price,
     };
-    match list(sheet, &mut places, &mut rows, &mut Slots::over(&mut slots), out) {
+    match list(
+        sheet,
+        &mut places,
+        &mut rows,
+        &mut Slots::over(&mut slots),
+        out,
+    ) {
         Ok(written) => written as i64,
         Err(_) => -13,
     }

@@ -56,7 +56,13 @@ fn write_verdict(out: &mut [u8], names: &[&[u8]], verdict: Verdict) -> Option<us
 }
 
 // The listing of a sheet, none where the output is too short for it.
-fn listed<M: Memory>(sheet: &[u8], places: &mut [Place], rows: &mut RowTables, memory: &mut M, out: &mut [u8]) -> Option<usize>
+fn listed<M: Memory>(
+    sheet: &[u8],
+    places: &mut [Place],
+    rows: &mut RowTables,
+    memory: &mut M,
+    out: &mut [u8],
+) -> Option<usize>
     ensures { λ r. ⌜ Listed (listing (now (sheet .entry)) (length (now (places .entry))) (rows-lent (now (rows .entry)))) (now (out .entry)) (now (out .exit)) r ⌝ }
 {
     if sheet.len() > LONGEST_SHEET {
@@ -81,7 +87,13 @@ fn listed<M: Memory>(sheet: &[u8], places: &mut [Place], rows: &mut RowTables, m
 
 /// Reads a sheet, solves it in a job of its own, and writes its listing to the start of the output; the rest of the output is left.
 /// It answers how many bytes were written. Where the output is too short, nothing is written.
-pub fn list<M: Memory>(sheet: &[u8], places: &mut [Place], rows: &mut RowTables, memory: &mut M, out: &mut [u8]) -> Result<usize, ListRefusal>
+pub fn list<M: Memory>(
+    sheet: &[u8],
+    places: &mut [Place],
+    rows: &mut RowTables,
+    memory: &mut M,
+    out: &mut [u8],
+) -> Result<usize, ListRefusal>
     ensures lists { λ r. ⌜ Lists (listing (now (sheet .entry)) (length (now (places .entry))) (rows-lent (now (rows .entry)))) (now (out .entry)) (now (out .exit)) r ⌝ }
     ensures fits { λ r. ⌜ Cases r (λ n. n ≤ length (now (out .entry))) (λ _. Unit {0}) ⌝ }
 {

@@ -59,9 +59,18 @@ fn run(rt: &LibcRuntime) -> Result<(), AnyError> {
     let mut sheet = Vec::new(rt.alloc());
     let _ = rt.stdin().read_to_end(&mut sheet)?;
     let mut places = vec![in rt.alloc(); Place::EMPTY; count]?;
-    let mut mass = vec![in rt.alloc(); Row { zero: None, one: None }; count]?;
-    let mut wait = vec![in rt.alloc(); Row { zero: None, one: None }; count]?;
-    let mut mass_price = vec![in rt.alloc(); Row { zero: None, one: None }; count]?;
+    let mut mass = vec![in rt.alloc(); Row {
+        zero: None,
+        one: None
+    }; count]?;
+    let mut wait = vec![in rt.alloc(); Row {
+        zero: None,
+        one: None
+    }; count]?;
+    let mut mass_price = vec![in rt.alloc(); Row {
+        zero: None,
+        one: None
+    }; count]?;
     let mut slots = vec![in rt.alloc(); None; 4 * count]?;
     let mut out = vec![in rt.alloc(); 0u8; LONGEST_LISTING]?;
     let mut rows = RowTables {
@@ -69,7 +78,13 @@ fn run(rt: &LibcRuntime) -> Result<(), AnyError> {
         wait: &mut wait,
         mass_price: &mut mass_price,
     };
-    match list(&sheet, &mut places, &mut rows, &mut Slots::over(&mut slots), &mut out) {
+    match list(
+        &sheet,
+        &mut places,
+        &mut rows,
+        &mut Slots::over(&mut slots),
+        &mut out,
+    ) {
         Ok(written) => print_bytes(rt, &out[0..written]),
         Err(_) => Err("the listing is too long".into()),
     }

@@ -36,11 +36,11 @@ pub rest-start : (room : ℕ) (sheet : List ℕ) (t : Told) (at : ℕ) → at �
     → Rest room sheet 0 t at (read-all (suc (length sheet)) room sheet 0 untold 0)
 rest-start room sheet t at a b c d e f =
     let same : t ≡ untold =
-      ap (λ x. record { stage = x; names = t .names; parts = t .parts; limits = t .limits; goal = t .goal }) b
-      ∙ ap (λ x. record { stage = Parts; names = x; parts = t .parts; limits = t .limits; goal = t .goal }) c
-      ∙ ap (λ x. record { stage = Parts; names = []; parts = x; limits = t .limits; goal = t .goal }) d
-      ∙ ap (λ x. record { stage = Parts; names = []; parts = []; limits = x; goal = t .goal }) e
-      ∙ ap (λ x. record { stage = Parts; names = []; parts = []; limits = []; goal = x }) f in
+    ap (λ x. record { stage = x; names = t .names; parts = t .parts; limits = t .limits; goal = t .goal }) b
+    ∙ ap (λ x. record { stage = Parts; names = x; parts = t .parts; limits = t .limits; goal = t .goal }) c
+    ∙ ap (λ x. record { stage = Parts; names = []; parts = x; limits = t .limits; goal = t .goal }) d
+    ∙ ap (λ x. record { stage = Parts; names = []; parts = []; limits = x; goal = t .goal }) e
+    ∙ ap (λ x. record { stage = Parts; names = []; parts = []; limits = []; goal = x }) f in
     (suc (length sheet), omega arith, ap (λ x. read-all (suc (length sheet)) room sheet 0 x at) same ∙ ap (λ i. read-all (suc (length sheet)) room sheet 0 untold i) a)
 
 module _ (room : ℕ) (sheet : List ℕ) (i : ℕ) (t : Told) (at : ℕ) (total : Reading) where

@@ -19,7 +19,12 @@ use memories::Memory;
 use records::Reader;
 
 /// Reads all records of a sheet into the job and the notes, or finds the first fault.
-pub fn read_all<M: Memory>(reader: &mut Reader, job: &mut Job, memory: &mut M, notes: &mut Notes) -> Outcome
+pub fn read_all<M: Memory>(
+    reader: &mut Reader,
+    job: &mut Job,
+    memory: &mut M,
+    notes: &mut Notes,
+) -> Outcome
     requires start { ⌜ now reader .at ≡ 0 ⌝ }
     requires stage { ⌜ now reader .stage ≡ Parts ⌝ }
     requires names { ⌜ held-names (now reader) ≡ [] ⌝ }

@@ -40,7 +40,12 @@ fn drafted(bytes: &[u8]) -> Draft
 }
 
 // Closes the limit of a record in the job.
-fn close_limit<M: Memory>(job: &mut Job, side: Side, terms: &[u8], memory: &mut M) -> Result<(), Refusal>
+fn close_limit<M: Memory>(
+    job: &mut Job,
+    side: Side,
+    terms: &[u8],
+    memory: &mut M,
+) -> Result<(), Refusal>
     requires { ⌜ Left-in (now terms) 0 0 (terms-in (now terms)) ⌝ }
     ensures reply { λ r. ⌜ told r ≡ closed (places (now (job .entry))) (stands (now (job .entry))) (highest None (terms-in (now (terms .entry)))) (limit-of (side .sense) (side .bound) (terms-in (now (terms .entry)))) ⌝ }
     ensures stands { λ r. ⌜ stands (now (job .exit)) ≡ after-close (places (now (job .entry))) (stands (now (job .entry))) (highest None (terms-in (now (terms .entry)))) (limit-of (side .sense) (side .bound) (terms-in (now (terms .entry)))) ⌝ }
@@ -62,7 +67,12 @@ fn refused_at(refusal: Refusal, place: usize) -> Progress
 }
 
 /// Reads one record and does what it says.
-pub fn step<M: Memory>(reader: &mut Reader, job: &mut Job, memory: &mut M, notes: &mut Notes) -> Progress
+pub fn step<M: Memory>(
+    reader: &mut Reader,
+    job: &mut Job,
+    memory: &mut M,
+    notes: &mut Notes,
+) -> Progress
     requires names { ⌜ length (held-names (now reader)) ≡ now notes .count ⌝ }
     requires parts { ⌜ stands (now job) .parts ≡ now notes .count ⌝ }
     requires none { ⌜ None-yet (now reader .stage) (stands (now job) .limits) ⌝ }

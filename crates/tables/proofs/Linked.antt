@@ -1,16 +1,21 @@
 -- Places written, and a walk along a chain.
 use mathlib.Core.Path.{_≡_, refl, sym, ap, _∙_, subst}
-use mathlib.Core.List.{List, [], _∷_, _++_, map}
-use mathlib.Core.Logic.{_⊎_, inl, inr}
+use mathlib.Core.List.{List, [], _∷_, _++_}
+use mathlib.Core.Logic.{inl, inr}
 use Prim.Native.Nat.{ℕ, zero, suc, _+_, _-_, _<_, _≤_}
 use native.Mathlib.Omega.{arith}
 use lib.ListN.{length, getD, set, take, length-set}
-use Rattle.std.proofs.shelf.Lists.{getD-set-same, getD-set-other, take-more-set, map-push}
+use Rattle.std.proofs.shelf.Lists.{getD-set-same, getD-set-other, take-more-set}
 use Rattle.std.proofs.shelf.Tests.{cases-order, cases-eq}
 use Rattle.diagrams.specs.declared.Node.{Node}
 use Rattle.tables.specs.declared.Place.{Place}
-use Rattle.tables.specs.Chains.{hashed, none, node-at, next-at, head-at, nodes-of, with-node, with-head, Chains, Chained, Walk}
-use Rattle.tables.proofs.Keeps.{More, Fewer, more-chains, fewer-chains}
+use Rattle.tables.specs.Chains.{hashed, none, node-at, next-at, head-at, nodes-of, with-node, with-head, Chains, Chained}
+use Rattle.tables.proofs.Keeps.{more-chains, fewer-chains}
+
+-- a walk along the chain of n, at the link v: nothing from there on is n
+abbrev pub Walk : List Place → ℕ → Node → ℕ → Type 0
+Walk xs len n v =
+    (v ≤ len) × (0 < v → hashed (length xs) (node-at xs (v - 1)) ≡ hashed (length xs) n) × ((k : ℕ) → v ≤ k → k < len → node-at xs k ≡ n → ⊥)
 
 -- what a write does not change
 kept : {A : Type 0} (f : Place → A) (xs : List Place) (k : ℕ) (p : Place) → k < length xs → f p ≡ f (getD xs k none) → (j : ℕ) → f (getD (set xs k p) j none) ≡ f (getD xs j none)

@@ -1,20 +1,15 @@
 -- Nodes as the code reads them.
 use mathlib.Core.List.{List, [], _∷_, _++_}
-use mathlib.Core.Bool.{Bool, true, false}
-use mathlib.Core.Logic.{_⊎_, inl, inr, ⊎-elim}
+use mathlib.Core.Logic.{⊎-elim}
 use mathlib.Core.Path.{_≡_, refl, sym, ap, _∙_, subst}
-use Prim.Native.Nat.{ℕ, zero, suc, _+_, _≤_, _<_, _^_, min}
+use Prim.Native.Nat.{ℕ, zero, suc, _≤_, _<_, min}
 use native.Mathlib.Omega.{arith}
-use lib.ListN.{length, getD, take, length-take}
-use lib.IntN.{ℤ, pos, _+ℤ_, _-ℤ_, natAbs}
-use mir.Val.{SFits, toZ, ofZ}
-use mir.Syntax.{w32}
+use lib.ListN.{length, getD, take}
+use lib.IntN.{ℤ}
 use denote.Ref.{now}
-use Rattle.std.proofs.shelf.Signed.{ints, toZ-ofZ}
 use Rattle.std.specs.shelf.Maps.{nth}
 use Rattle.std.proofs.shelf.Maps.{nth-getD, nth-past}
 use Rattle.std.proofs.shelf.Tests.{cases-lt}
-use Rattle.std.specs.declared.option.Option.{Option}
 use Rattle.std.specs.declared.option.Option.the-variants.{Some, None}
 use Rattle.diagrams.specs.declared.Child.{Child}
 use Rattle.diagrams.specs.declared.Child.the-variants.{Terminal, Place}
@@ -22,15 +17,14 @@ use Rattle.diagrams.specs.declared.Node.{Node}
 use Rattle.diagrams.specs.declared.Edge.{Edge}
 use Rattle.diagrams.specs.declared.Question.{Question}
 use Rattle.diagrams.specs.Nodes.{From, Sound}
-use Rattle.diagrams.specs.Needs.{once}
-use Rattle.diagrams.specs.Apply.{Good, Grown, Makes, Joined, Cofactor, node-of, edge-at, Top, Open, Asked, Fit, edge-to}
+use Rattle.diagrams.specs.Apply.{edge-at, Good, Grown, Makes, Joined, node-of, Top, Open, Fit, edge-to}
+use Rattle.diagrams.proofs.Canonical.{canonical}
 use Rattle.diagrams.proofs.Grow.{grown-none, joined-same, joined-at, good-new, joined-new, one-more}
-use Rattle.diagrams.proofs.Settle.{cofactor-fit, cofactor-out, from-next}
-use Rattle.diagrams.proofs.Steps.{cofactor-skip, from-lower}
+use Rattle.diagrams.proofs.Steps.{from-lower}
 use Rattle.tables.specs.declared.NodeTable.{NodeTable}
 use Rattle.tables.specs.declared.Place.{Place as Slot}
-use Rattle.tables.specs.Chains.{none, node-at, nodes-of}
-use Rattle.tables.specs.Places.{made, room, Fits, blank, Grew, Table, part-at, Too-few, Made}
+use Rattle.tables.specs.Chains.{node-at, nodes-of}
+use Rattle.tables.specs.Places.{made, room, Fits, blank, Grew, Table, part-at, Made, One-function}
 
 pub nth-in : (ns : List Node) (k : ℕ) (n : Node) → nth ns k ≡ Some n → k < length ns
 nth-in ns k n e = ⊎-elim (λ h. h) (λ h. let p = nth-past ns k h in let z : _≡_ {A = ℕ} 0 1 = cc in absurd (omega arith)) (cases-lt k (length ns))
@@ -118,15 +112,6 @@ top-is parts ns sound few q fl fr opened fit = at (q .left .child) (q .right .ch
     at (Place j) Terminal el er gl gr = let h = part-low parts ns sound j gl in build (Place j) Terminal el er gl gr (omega arith) (λ i a b. let m = most-part ns j i a in omega arith)
     at (Place j) (Place k) el er gl gr = let h = part-low parts ns sound j gl in build (Place j) (Place k) el er gl gr (omega arith) (λ i a b. let m = most-part ns j i a in let o = most-part ns k i b in omega arith)
 
-pub diff-fits : (a b : ℤ) → natAbs a ≤ 2 ^ 28 → natAbs b ≤ 2 ^ 28 → SFits w32 (a -ℤ b)
-diff-fits a b h k = omega (arith, ints)
-
-pub sum-fits : (a b : ℤ) → natAbs a ≤ 2 ^ 28 → natAbs b ≤ 2 ^ 29 → SFits w32 (a +ℤ b)
-sum-fits a b h k = omega (arith, ints)
-
-pub small-fits : (b : ℤ) → natAbs b ≤ 2 ^ 29 → SFits w32 b
-small-fits b k = omega (arith, ints)
-
 pub grew-none : (parts : ℕ) (ts : List (List ℤ)) (t : NodeTable) → Table parts ts t → Grew parts ts t t
 grew-none parts ts t h = record { fits = h .fits; places = refl; grown = grown-none (made t); good = h .good }
 
@@ -167,3 +152,12 @@ module _ (parts : ℕ) (ts : List (List ℤ)) (t : NodeTable) (table : Table par
         grew = record { fits = fits; places = places; grown = record { more = node-of i fit out ∷ []; is = is′ }; good = subst (λ z. Good parts z ts) (sym is′) (good-new parts (made t) ts (table .good) i fit out m d (absent n en lacks)) };
         edge = subst (Joined (made t′) i fit out) ee (subst (λ z. Joined (made t′) i fit out (edge-to out z)) at (subst (λ z. Joined z i fit out (edge-to out (length (made t)))) (sym is′) (joined-new parts (made t) ts (table .good) i fit out m d (absent n en lacks))));
       }
+
+pub one-function : (parts : ℕ) (ns : List Node) (a b : Edge) → a ≡ b → One-function parts ns a b
+one-function parts ns a b e c l = ap (λ x. edge-at ns 0 x c) e
+
+pub one-edge : (parts : ℕ) (ns : List Node) → Sound parts ns → (a b : Edge) → From ns 0 (a .child) → From ns 0 (b .child) → One-function parts ns a b → a ≡ b
+one-edge parts ns sound a b fa fb h = let e = canonical parts ns sound (a .constant) (b .constant) (a .child) (b .child) fa fb h in path (e .0) (e .1)
+  where
+    path : a .constant ≡ b .constant → a .child ≡ b .child → a ≡ b
+    path p q i = record { constant = p i; child = q i }

@@ -72,8 +72,3 @@ pub record Fits (t : NodeTable) : Type 0 where
 -- all buckets are empty
 abbrev pub Clear : List Place → Type 0
 Clear xs = (k : ℕ) → k < length xs → head-at xs k ≡ 0
-
--- a walk along the chain of n, at the link v: nothing from there on is n
-abbrev pub Walk : List Place → ℕ → Node → ℕ → Type 0
-Walk xs len n v =
-    (v ≤ len) × (0 < v → hashed (length xs) (node-at xs (v - 1)) ≡ hashed (length xs) n) × ((k : ℕ) → v ≤ k → k < len → node-at xs k ≡ n → ⊥)

@@ -1,6 +1,7 @@
 -- The nodes that a table has, and how it may change.
 use mathlib.Core.Path.{_≡_}
 use mathlib.Core.List.{List}
+use mathlib.Core.Bool.{Bool}
 use Prim.Native.Nat.{ℕ, _<_, _≤_, _^_}
 use lib.ListN.{length, getD}
 use lib.IntN.{ℤ, pos, natAbs}
@@ -12,7 +13,7 @@ use Rattle.diagrams.specs.declared.Child.{Child}
 use Rattle.diagrams.specs.declared.Child.the-variants.{Terminal, Place}
 use Rattle.diagrams.specs.Needs.{once}
 use Rattle.diagrams.specs.Nodes.{From}
-use Rattle.diagrams.specs.Apply.{Good, Grown, Makes, Joined}
+use Rattle.diagrams.specs.Apply.{edge-at, Good, Grown, Makes, Joined}
 use Rattle.tables.specs.declared.NodeTable.{NodeTable}
 pub use Rattle.tables.specs.Chains.{made, room, Fits}
 
@@ -52,3 +53,7 @@ pub record Made (parts : ℕ) (ts : List (List ℤ)) (t t′ : NodeTable) (i : �
 -- part i may be settled in e
 abbrev pub Can-settle : NodeTable → Edge → ℕ → Type 0
 Can-settle t e i = (parts : ℕ) × (ts : List (List ℤ)) × Table parts ts t × From (made t) i (e .child) × (natAbs (e .constant) ≤ 2 ^ 28)
+
+-- two edges denote one function of the choices among the parts
+abbrev pub One-function : ℕ → List Node → Edge → Edge → Type 0
+One-function parts ns a b = (c : List Bool) → length c ≡ parts → edge-at ns 0 a c ≡ edge-at ns 0 b c

@@ -1,5 +1,6 @@
 //! A table of diagram nodes over lent places, in which equal nodes are found by their hashes.
 ghost use mathlib.Core.Path.{_≡_};
+ghost use mathlib.Core.Bool.{true};
 ghost use mathlib.Core.List.{List, [], _∷_, _++_};
 ghost use Prim.Native.Nat.{ℕ, _+_, _-_, _^_, _<_, _≤_};
 ghost use lib.ListN.{length, take};
@@ -7,10 +8,10 @@ ghost use lib.IntN.{ℤ, natAbs};
 ghost use Rattle.std.specs.Options.{Cases};
 ghost use Rattle.std.specs.shelf.Maps.{nth};
 ghost use Rattle.std.specs.declared.option.Option.the-variants.{Some};
-ghost use Rattle.diagrams.specs.Nodes.{From};
+ghost use Rattle.diagrams.specs.Nodes.{From, Sound};
 ghost use Rattle.diagrams.specs.Apply.{Makes, Cofactor, node-of, edge-to, fitted-edge, left-out-edge};
 ghost use Rattle.tables.specs.Chains.{hashed, child-number, node-at, made, room, Fits, Clear, with-node, with-head};
-ghost use Rattle.tables.specs.Places.{Table, part-at, Can-make, Made, Can-settle};
+ghost use Rattle.tables.specs.Places.{Table, part-at, Can-make, Made, Can-settle, One-function};
 use diagrams::Child;
 use diagrams::Edge;
 use diagrams::EdgePartialEq;
@@ -232,6 +233,14 @@ impl<'a> NodeTable<'a> {
         }
         let k = self.push(n)?;
         Some(edge_to(out, k))
+    }
+
+    /// Whether two edges of a sound table denote one function, which is whether they are equal.
+    pub fn same(&self, a: Edge, b: Edge) -> bool
+        ensures equal { λ r. ⌜ (r ≡ true → a ≡ b) × (a ≡ b → r ≡ true) ⌝ }
+        ensures functions { λ r. ⌜ ((parts : ℕ) → Sound parts (made (now (self .entry))) → From (made (now (self .entry))) 0 (a .child) × From (made (now (self .entry))) 0 (b .child) → (r ≡ true → One-function parts (made (now (self .entry))) a b) × (One-function parts (made (now (self .entry))) a b → r ≡ true)) ⌝ }
+    {
+        a == b
     }
 
     /// The part of a node, and 255 for the terminal.

@@ -4,7 +4,7 @@ use mathlib.Core.Path.{_≡_, sym, subst}
 use Prim.Native.Nat.{ℕ}
 use native.Mathlib.Omega.{arith}
 use Rattle.std.specs.shelf.Maps.{nth}
-use Rattle.std.specs.declared.option.Option.the-variants.{Some, None}
+use Rattle.std.specs.declared.option.Option.the-variants.{Some}
 use Rattle.diagrams.specs.declared.Node.{Node}
 use Rattle.diagrams.specs.Nodes.{Sound, Ordered}
 use Rattle.diagrams.proofs.Extend.{ordered-none}

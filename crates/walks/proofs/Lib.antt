@@ -1,3 +1,4 @@
+pub mod Paths
 pub mod Once
 pub mod Sum
 pub mod Three

@@ -1,26 +1,23 @@
 -- One question from its two settled ones.
-use mathlib.Core.List.{List, [], _∷_, _++_}
+use mathlib.Core.List.{List}
 use mathlib.Core.Bool.{Bool, true, false}
-use mathlib.Core.Path.{_≡_, refl, sym, ap, _∙_, subst}
-use Prim.Native.Nat.{ℕ, zero, suc, _+_, _-_, _≤_, _<_, _^_, min}
+use mathlib.Core.Path.{_≡_, sym, _∙_, subst}
+use Prim.Native.Nat.{ℕ, suc, _+_, _-_, _≤_, min}
 use native.Mathlib.Omega.{arith}
 use native.Mathlib.Numerals.{add-one}
-use lib.IntN.{ℤ, pos, natAbs}
-use Rattle.std.specs.declared.option.Option.{Option}
-use Rattle.std.specs.declared.option.Option.the-variants.{Some, None}
-use Rattle.diagrams.specs.declared.Child.{Child}
-use Rattle.diagrams.specs.declared.Node.{Node}
+use lib.IntN.{ℤ}
+use Rattle.std.specs.declared.option.Option.the-variants.{Some}
 use Rattle.diagrams.specs.declared.Edge.{Edge}
 use Rattle.diagrams.specs.declared.Question.{Question}
-use Rattle.diagrams.specs.Nodes.{From, Sound}
-use Rattle.diagrams.specs.Apply.{Good, Grown, Makes, Joined, Top, Open, Asked, Fit, Settled, Right, Answers, All-right}
-use Rattle.diagrams.proofs.Grow.{grown-on, asked-grown, right-grown, settled-grown, top-grown, all-right-grown}
+use Rattle.diagrams.specs.Nodes.{From}
+use Rattle.diagrams.specs.Apply.{Makes, Joined, Top, Open, Asked, Settled, Right, Answers}
+use Rattle.diagrams.proofs.Grow.{grown-on, asked-grown, right-grown, settled-grown, top-grown}
 use Rattle.diagrams.proofs.Settle.{ask-settled, may-make, answered}
 use Rattle.diagrams.proofs.Steps.{from-lower, asked-up, asked-constants, asked-small}
 use Rattle.tables.specs.declared.NodeTable.{NodeTable}
 use Rattle.walks.specs.Stack.{Opening}
-use Rattle.tables.specs.Places.{made, room, Grew, Table, part-at, Too-few, Made, Can-settle}
-use Rattle.walks.specs.Walked.{Can-ask, Walked}
+use Rattle.tables.specs.Places.{made, Grew, Table, part-at, Can-settle}
+use Rattle.walks.specs.Walked.{Walked}
 use Rattle.tables.proofs.Tables.{top-is, grew-none}
 
 pub table-of : {parts : ℕ} {ts : List (List ℤ)} {t t′ : NodeTable} → Grew parts ts t t′ → Table parts ts t′

@@ -1,11 +1,11 @@
 -- Comparisons that the ranges of the sum decide on the walk.
 use mathlib.Core.List.{List, [], _∷_}
 use mathlib.Core.Path.{_≡_, sym, subst}
-use Prim.Native.Nat.{ℕ, _+_, _-_, _≤_, _<_}
+use Prim.Native.Nat.{ℕ, _-_, _≤_, _<_}
 use native.Mathlib.Omega.{arith}
 use lib.ListN.{length, getD, drop}
 use lib.IntN.{ℤ}
-use Rattle.std.specs.declared.option.Option.the-variants.{Some, None}
+use Rattle.std.specs.declared.option.Option.the-variants.{None}
 use Rattle.limits.specs.Limits.{sum}
 use Rattle.diagrams.specs.declared.Child.the-variants.{Place}
 use Rattle.diagrams.specs.declared.Edge.{Edge}
@@ -21,7 +21,7 @@ use Rattle.tables.specs.declared.NodeTable.{NodeTable}
 use Rattle.tables.specs.Places.{made, Table, part-at}
 use Rattle.tables.proofs.Tables.{from-part, most-part, part-low}
 use Rattle.walks.specs.declared.Frame.{Frame}
-use Rattle.walks.specs.Stack.{level, awaits, Path, Walking}
+use Rattle.walks.proofs.Paths.{level, awaits, Path, Walking}
 use Rattle.walks.specs.Looks.{Ranged, Can-look, By-range}
 use Rattle.walks.proofs.Once.{table-of, asked-from}
 

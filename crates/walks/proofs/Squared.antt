@@ -1,19 +1,18 @@
 -- The product of an edge with itself.
 use mathlib.Core.List.{List, [], _∷_}
 use mathlib.Core.Bool.{Bool}
-use mathlib.Core.Logic.{_⊎_, inl, inr, ⊎-elim}
-use mathlib.Core.Path.{_≡_, refl, sym, ap, _∙_, subst}
-use Prim.Native.Nat.{ℕ, zero, suc, _+_, _-_, _≤_, _<_}
+use mathlib.Core.Logic.{inl, inr, ⊎-elim}
+use mathlib.Core.Path.{_≡_, sym, ap, _∙_, subst}
+use Prim.Native.Nat.{ℕ, zero, suc, _+_, _-_, _≤_}
 use native.Mathlib.Omega.{arith}
 use lib.ListN.{length}
-use lib.IntN.{ℤ, pos, _+ℤ_, _*ℤ_}
-use Rattle.std.proofs.shelf.Signed.{ints}
+use lib.IntN.{ℤ, _+ℤ_, _*ℤ_}
 use Rattle.std.proofs.shelf.Tests.{cases-lt}
 use Rattle.diagrams.specs.declared.Edge.{Edge}
 use Rattle.diagrams.specs.declared.Node.{Node}
 use Rattle.diagrams.specs.declared.Operation.the-variants.{Times}
 use Rattle.diagrams.specs.declared.Question.{Question}
-use Rattle.diagrams.specs.Nodes.{value, From}
+use Rattle.diagrams.specs.Nodes.{From}
 use Rattle.diagrams.specs.Apply.{meaning, edge-at, Bit, Fit, Asked, Right}
 use Rattle.diagrams.proofs.Steps.{value-up, from-lower, asked-up}
 use Rattle.questions.specs.Products.{Squares}

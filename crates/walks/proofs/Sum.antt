@@ -1,7 +1,7 @@
 -- One more term of the sum.
 use mathlib.Core.List.{List}
-use mathlib.Core.Path.{_≡_, refl, sym, ap, _∙_, subst}
-use Prim.Native.Nat.{ℕ, suc, _+_, _-_, _^_, _≤_, _<_}
+use mathlib.Core.Path.{_≡_, sym, subst}
+use Prim.Native.Nat.{ℕ, suc, _-_, _^_, _≤_, _<_}
 use native.Mathlib.Omega.{arith}
 use lib.ListN.{length, getD}
 use lib.IntN.{ℤ, pos, natAbs}
@@ -13,9 +13,10 @@ use Rattle.diagrams.specs.Apply.{Makes, Joined, Allows, Sums, plus-edge}
 use Rattle.diagrams.proofs.Chain.{sum-makes, sum-joined, sums-constant}
 use Rattle.diagrams.proofs.Grow.{sums-grown}
 use Rattle.tables.specs.declared.NodeTable.{NodeTable}
-use Rattle.tables.specs.Places.{made, Grew, Table, Made}
-use Rattle.walks.specs.Walked.{Summing, Summed}
-use Rattle.walks.proofs.Once.{table-of, grew-on}
+use Rattle.tables.specs.Places.{made, Made}
+use Rattle.walks.specs.Walked.{Summed}
+use Rattle.walks.proofs.Paths.{Summing}
+use Rattle.walks.proofs.Once.{grew-on}
 
 module _ {parts : ℕ} {ts : List (List ℤ)} {t t′ : NodeTable} {ws : List ℤ} {i : ℕ} {e : Edge} (s : Summing parts ts t t′ ws i e) where
   pub summing-small : natAbs (e .constant) ≤ 2 ^ 28

@@ -1,22 +1,20 @@
 -- The three functions of a limit, one after the other.
 use mathlib.Core.List.{List, [], _∷_, _++_}
 use mathlib.Core.Bool.{Bool, true, false, cond}
-use mathlib.Core.Path.{_≡_, refl, sym, ap, ap₂, _∙_, subst}
-use Prim.Native.Nat.{ℕ, zero, suc, _+_, _-_, _*_, _^_, _≤_, _<_}
+use mathlib.Core.Path.{_≡_, refl, sym, ap₂, _∙_, subst}
+use Prim.Native.Nat.{ℕ, suc, _-_, _*_, _≤_}
 use native.Mathlib.Omega.{arith}
-use lib.ListN.{length, getD, drop}
-use lib.IntN.{ℤ, pos, negsuc, natAbs, _+ℤ_, _*ℤ_}
+use lib.ListN.{length, getD}
+use lib.IntN.{ℤ, pos, natAbs, _+ℤ_, _*ℤ_}
 use Rattle.std.proofs.shelf.Signed.{ints}
 use Rattle.std.specs.declared.option.Option.{Option}
 use Rattle.std.specs.declared.option.Option.the-variants.{Some, None}
-use Rattle.diagrams.specs.declared.Child.the-variants.{Terminal, Place}
 use Rattle.diagrams.specs.declared.Edge.{Edge}
-use Rattle.diagrams.specs.declared.Operation.{Operation}
 use Rattle.diagrams.specs.declared.Operation.the-variants as operation
 use Rattle.diagrams.specs.declared.Question.{Question}
 use Rattle.limits.specs.Limits.{sum, keeps}
 use Rattle.diagrams.specs.Nodes.{From, Sound}
-use Rattle.diagrams.specs.Apply.{meaning, edge-at, target, Fit, Bit, Right, Right-at, Asked, Allows, Sums, question, Grown}
+use Rattle.diagrams.specs.Apply.{meaning, edge-at, target, Fit, Bit, Right, Asked, Allows, Sums, question, Grown}
 use Rattle.diagrams.proofs.Steps.{allows-ext, bit-meaning}
 use Rattle.diagrams.proofs.Settle.{edge-constant}
 use Rattle.diagrams.proofs.Reached.{cover}
@@ -26,12 +24,12 @@ use mathlib.Core.Logic.{⊎-elim}
 use Rattle.diagrams.proofs.Grow.{from-grown, edge-grown, grown-on}
 use Rattle.tables.specs.declared.NodeTable.{NodeTable}
 use Rattle.limits.specs.declared.Limit.{Limit}
-use Rattle.tables.specs.Places.{made, Grew, Table}
+use Rattle.tables.specs.Places.{made, Grew}
 use Rattle.walks.specs.Walked.{Walked}
 use Rattle.questions.specs.Bounds.{operation-of, bound-edge, kept-question}
 use Rattle.questions.proofs.Bounded.{fit-sense, meaning-kept}
 use Rattle.walks.specs.Extended.{kept, times, Begins, Builds, Denotes, Built}
-use Rattle.walks.proofs.Once.{table-of, grew-on}
+use Rattle.walks.proofs.Once.{grew-on}
 use Rattle.diagrams.specs.declared.Node.{Node}
 use Rattle.diagrams.proofs.Tail.{tail-sum}
 use Rattle.questions.specs.declared.Range.{Range}

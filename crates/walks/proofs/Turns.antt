@@ -1,9 +1,9 @@
 -- The turns of the walk.
 use mathlib.Core.List.{List, [], _∷_}
 use mathlib.Core.Bool.{Bool, true, false}
-use mathlib.Core.Logic.{_⊎_, inl, inr, ⊎-elim}
-use mathlib.Core.Path.{_≡_, refl, sym, ap, _∙_, subst}
-use Prim.Native.Nat.{ℕ, zero, suc, _+_, _-_, _*_, _≤_, _<_, min}
+use mathlib.Core.Logic.{_⊎_, ⊎-elim}
+use mathlib.Core.Path.{_≡_, refl, sym, ap, subst}
+use Prim.Native.Nat.{ℕ, zero, suc, _+_, _-_, _≤_, _<_, min}
 use native.Mathlib.Omega.{arith}
 use lib.ListN.{length}
 use lib.IntN.{ℤ}
@@ -12,15 +12,15 @@ use Rattle.std.specs.declared.option.Option.{Option}
 use Rattle.std.specs.declared.option.Option.the-variants.{Some, None}
 use Rattle.diagrams.specs.declared.Edge.{Edge}
 use Rattle.diagrams.specs.declared.Question.{Question}
-use Rattle.diagrams.specs.Nodes.{Sound}
-use Rattle.diagrams.specs.Apply.{Top, Asked, Settled, Right, Answers, Open, Makes, Joined, Grown}
+use Rattle.diagrams.specs.Apply.{Asked, Settled, Right, Answers, Open, Makes}
 use Rattle.diagrams.proofs.Grow.{asked-grown, right-grown, settled-grown, top-grown}
 use Rattle.diagrams.proofs.Settle.{ask-settled}
 use Rattle.tables.specs.declared.NodeTable.{NodeTable}
 use Rattle.walks.specs.declared.Frame.{Frame}
 use Rattle.tables.specs.Places.{made, Grew, Table, part-at, Made}
 use Rattle.walks.specs.Walked.{Walked}
-use Rattle.walks.specs.Stack.{level, awaits, Opening, Fit-held, Awaits, Path, Walking, cost, rest, rests, left-to-do, new-frame}
+use Rattle.walks.specs.Stack.{Opening, new-frame}
+use Rattle.walks.proofs.Paths.{level, awaits, Fit-held, Path, Walking, cost, rest, rests, left-to-do}
 use Rattle.questions.specs.Products.{Squares}
 use Rattle.tables.proofs.Tables.{grew-none}
 use Rattle.walks.proofs.Squared.{squared}

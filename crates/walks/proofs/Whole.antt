@@ -1,13 +1,12 @@
 -- The table after one limit more.
 use mathlib.Core.List.{List, [], _∷_, _++_}
-use mathlib.Core.Bool.{Bool}
-use mathlib.Core.Logic.{_⊎_, inl, inr, ⊎-elim}
+use mathlib.Core.Logic.{inl, inr, ⊎-elim}
 use mathlib.Core.Path.{_≡_, refl, sym, ap, _∙_, subst}
-use Prim.Native.Nat.{ℕ, zero, suc, _+_, _-_, _^_, _≤_, _<_}
+use Prim.Native.Nat.{ℕ, zero, suc, _+_, _-_, _≤_}
 use native.Mathlib.Omega.{arith}
 use native.Mathlib.Nat.{add-zero, zero-add}
 use lib.ListN.{length, take, length-append}
-use lib.IntN.{ℤ, pos}
+use lib.IntN.{ℤ}
 use lib.Seq.{take-append-le, take-all}
 use Rattle.std.specs.shelf.Maps.{nth}
 use Rattle.std.specs.declared.option.Option.{Option}
@@ -17,16 +16,15 @@ use Rattle.diagrams.specs.declared.Node.{Node}
 use Rattle.diagrams.specs.declared.Edge.{Edge}
 use Rattle.limits.specs.Limits.{sum}
 use Rattle.diagrams.specs.Needs.{needed, once}
-use Rattle.diagrams.specs.Nodes.{value, From, Sound}
+use Rattle.diagrams.specs.Nodes.{value}
 use Rattle.diagrams.specs.Held.{In, node-table}
-use Rattle.diagrams.specs.Apply.{Good, Grown}
 use Rattle.diagrams.proofs.Tables.{table-ext, in-left, in-right, in-either}
 use Rattle.diagrams.proofs.Held.{node-once, AtMost, at-least}
 use Rattle.diagrams.proofs.Grow.{value-grown, nth-grown}
 use Rattle.tables.specs.declared.NodeTable.{NodeTable}
 use Rattle.limits.specs.declared.Limit.{Limit}
-use Rattle.tables.specs.Places.{made, room, Fits, Grew, Table, Too-few}
-use Rattle.walks.specs.Extended.{kept, times, Begins, Builds, Can-build, Built, Denotes, tables-from, limit-needs, all-needs, Sound-table, Extended, Refused, Has-node}
+use Rattle.tables.specs.Places.{made, room, Fits}
+use Rattle.walks.specs.Extended.{kept, Builds, Built, tables-from, limit-needs, all-needs, Sound-table, Extended, Refused, Has-node}
 use Rattle.tables.proofs.Tables.{made-length, nth-in}
 
 in-tables : (parts : ℕ) (ns : List Node) (k j : ℕ) (rest : List Node) (n : Node) → nth rest j ≡ Some n → In (node-table parts ns (k + j) n) (tables-from parts ns k rest)

@@ -1,9 +1,9 @@
 -- A limit more: what is built for it, and what the table holds then.
 use mathlib.Core.Path.{_≡_}
 use mathlib.Core.List.{List, [], _∷_, _++_}
-use mathlib.Core.Bool.{Bool, true, false}
-use Prim.Native.Nat.{ℕ, suc, _+_, _<_, _≤_, _^_, min}
-use lib.ListN.{length, getD, take}
+use mathlib.Core.Bool.{Bool}
+use Prim.Native.Nat.{ℕ, suc, _<_, _≤_, _^_}
+use lib.ListN.{length, getD}
 use lib.IntN.{ℤ, pos, _*ℤ_, natAbs}
 use Rattle.std.specs.Options.{Cases}
 use Rattle.std.specs.shelf.Maps.{nth}

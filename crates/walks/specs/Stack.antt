@@ -1,46 +1,37 @@
--- The open questions, newest first, and how much is left to do.
+-- The open questions of the walk.
 use mathlib.Core.Path.{_≡_}
-use mathlib.Core.List.{List, [], _∷_, _++_}
-use mathlib.Core.Bool.{Bool, true, false}
-use Prim.Native.Nat.{ℕ, zero, suc, _+_, _-_, _*_, _<_, _≤_, min}
-use lib.ListN.{length, getD}
+use mathlib.Core.List.{List, [], _∷_}
+use mathlib.Core.Bool.{true}
+use Prim.Native.Nat.{ℕ, zero, suc, _<_, _≤_, min}
+use lib.ListN.{getD}
 use lib.IntN.{ℤ, pos}
-use Rattle.std.specs.Options.{Cases}
 use Rattle.std.specs.declared.option.Option.{Option}
-use Rattle.std.specs.declared.option.Option.the-variants.{Some, None}
+use Rattle.std.specs.declared.option.Option.the-variants.{None}
 use Rattle.diagrams.specs.declared.Edge.{Edge}
 use Rattle.diagrams.specs.declared.Operation.the-variants as operation
 use Rattle.diagrams.specs.declared.Question.{Question}
 use Rattle.diagrams.specs.declared.Child.the-variants.{Terminal}
-use Rattle.diagrams.specs.Apply.{Top, Asked, Settled, Right}
+use Rattle.diagrams.specs.Apply.{Top, Asked, Settled}
 use Rattle.tables.specs.declared.NodeTable.{NodeTable}
 use Rattle.walks.specs.declared.Frame.{Frame}
 use Rattle.walks.specs.declared.Stack.{Stack}
-use Rattle.tables.specs.Places.{made, Grew, Table, part-at}
+use Rattle.tables.specs.Places.{made, Table, part-at}
 
+-- what an unused place of the stack reads as
 abbrev pub no-edge : Edge
 no-edge = record { constant = pos 0; child = Terminal }
 
 abbrev pub no-frame : Frame
 no-frame = record { question = record { operation = operation.AtMost; left = no-edge; right = no-edge }; part = 0; fit = None }
 
--- the open frames of the first d, newest first
+-- the first d frames, newest first
 abbrev pub open-frames : List Frame → ℕ → List Frame
 open-frames fs zero = []
 open-frames fs (suc d) = getD fs d no-frame ∷ open-frames fs d
 
+-- the open questions, newest first
 abbrev pub frames-of : Stack → List Frame
 frames-of s = open-frames (s .frames) (s .depth)
-
--- the part of the question that is asked next, at least
-abbrev pub level : List Frame → ℕ
-level [] = 0
-level (f ∷ fs) = suc (f .part)
-
--- whether the part is fitted in the question that is awaited
-abbrev pub awaits : Option Edge → Bool
-awaits None = true
-awaits (Some e) = false
 
 -- a question that its constants do not answer, at the least part of its nodes
 pub record Opening (parts : ℕ) (ts : List (List ℤ)) (t : NodeTable) (q : Question) (j : ℕ) : Type 0 where
@@ -48,46 +39,7 @@ pub record Opening (parts : ℕ) (ts : List (List ℤ)) (t : NodeTable) (q : Que
   pub top : Top parts (made t) q j
   pub asked : Asked parts (made t) ts j q
 
--- what a frame has of the question with its part fitted
-abbrev pub Fit-held : ℕ → NodeTable → Frame → Type 0
-Fit-held parts t f = Cases (f .fit) (Unit {0}) (λ e. (q : Question) × Settled (made t) (f .part) (f .question) true q × Right parts (made t) q e)
-
--- the open question f, above those below it, awaits the answer to q
-pub record Awaits (parts : ℕ) (ts : List (List ℤ)) (t : NodeTable) (below : List Frame) (f : Frame) (q : Question) : Type 0 where
-  pub opened : Opening parts ts t (f .question) (f .part)
-  pub deep : length below ≤ f .part
-  pub above : level below ≤ f .part
-  pub settled : Settled (made t) (f .part) (f .question) (awaits (f .fit)) q
-  pub fit-held : Fit-held parts t f
-
--- each open question awaits the one above it, and the newest awaits q
-abbrev pub Path : ℕ → List (List ℤ) → NodeTable → Question → List Frame → Question → Type 0
-Path parts ts t root [] q = q ≡ root
-Path parts ts t root (f ∷ fs) q = Awaits parts ts t fs f q × Path parts ts t root fs (f .question)
-
--- between two turns of the walk from root: what is open, what is asked, and its answer if it is there
-pub record Walking (parts : ℕ) (ts : List (List ℤ)) (t₀ t : NodeTable) (root : Question) (fs : List Frame) (q : Question) (answer : Option Edge) : Type 0 where
-  pub grew : Grew parts ts t₀ t
-  pub path : Path parts ts t root fs q
-  pub state : Cases answer (Asked parts (made t) ts (level fs) q) (λ e. Right parts (made t) q e)
-
--- turns that a question of r parts takes at most
-abbrev pub cost : ℕ → ℕ
-cost zero = 1
-cost (suc r) = 3 + 2 * cost r
-
--- turns that an open question takes yet
-abbrev pub rest : ℕ → Frame → ℕ
-rest parts f = elim (f .fit) [ None ↦ 2 + cost (parts - suc (f .part)) | Some e ↦ 1 ]
-
-abbrev pub rests : ℕ → List Frame → ℕ
-rests parts [] = 0
-rests parts (f ∷ fs) = rest parts f + rests parts fs
-
--- turns that are left at most
-abbrev pub left-to-do : ℕ → List Frame → Option Edge → ℕ
-left-to-do parts fs answer = elim answer [ None ↦ cost (parts - level fs) | Some e ↦ 0 ] + rests parts fs
-
+-- a frame of part j
 abbrev pub new-frame : Question → ℕ → Option Edge → Frame
 new-frame q j e = record { question = q; part = j; fit = e }
 

@@ -33,9 +33,3 @@ pub record Can-sum (parts : ℕ) (t : NodeTable) (ws : List ℤ) : Type 0 where
 pub record Summed (parts : ℕ) (ts : List (List ℤ)) (t t′ : NodeTable) (ws : List ℤ) (r : Option Edge) : Type 0 where
   pub grew : Grew parts ts t t′
   pub edge : Cases r (Too-few ts t′) (λ e. Sums parts (made t′) ws 0 e)
-
--- the table grew, and has the sum of the parts from i up
-pub record Summing (parts : ℕ) (ts : List (List ℤ)) (t t′ : NodeTable) (ws : List ℤ) (i : ℕ) (e : Edge) : Type 0 where
-  pub low : i ≤ parts
-  pub grew : Grew parts ts t t′
-  pub edge : Sums parts (made t′) ws i e

@@ -1,5 +1,4 @@
-use borrow.Author.Needs.{needs}
-use mathlib.Core.Path.{_≡_, sym, ap, _∙_}
+use mathlib.Core.Path.{sym, ap, _∙_}
 use Rattle.diagrams.specs.Needs.{indicator}
 use Rattle.diagrams.specs.Apply.{meaning}
 use Rattle.diagrams.proofs.Settle.{compared}

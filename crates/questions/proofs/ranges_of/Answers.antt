@@ -1,8 +1,7 @@
-use borrow.Author.Needs.{needs}
 use native.Mathlib.Omega.{arith}
-use mathlib.Core.Path.{_≡_, refl, subst}
-use Prim.Native.Nat.{_-_, _≤_, _<_}
-use lib.ListN.{length, getD, set, length-set, replicate}
+use mathlib.Core.Path.{refl}
+use Prim.Native.Nat.{_-_}
+use lib.ListN.{length-set, replicate}
 use Rattle.questions.specs.Ranges.{no-range}
 use Rattle.questions.proofs.Ranged.{ranges-start, same-ranges, ranges-step, ranges-small}
 use Rattle.questions.proofs.ranges_of.Needs as need

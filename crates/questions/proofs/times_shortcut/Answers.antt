@@ -1,8 +1,4 @@
-use borrow.Author.Needs.{needs}
-use mathlib.Core.Path.{_≡_, sym, ap, _∙_, subst}
-use Rattle.std.specs.Options.{Cases}
-use Rattle.diagrams.specs.Apply.{Answers, Open, Fit}
-use Rattle.diagrams.proofs.Settle.{times-left, times-right, times-open}
+use Rattle.diagrams.proofs.Settle.{times-left, times-open}
 use Rattle.questions.proofs.times_shortcut.Needs as need
 
 pub returns-in-Some : need.returns-in-Some

@@ -1,5 +1,4 @@
-use borrow.Author.Needs.{needs}
-use Rattle.walks.proofs.Ranged.{look-index, look-small, look-found}
+use Rattle.walks.proofs.Ranged.{look-index, look-small}
 use Rattle.walks.proofs.by_range.Needs as need
 
 pub index-ranges-part : need.index-ranges-part

@@ -1,9 +1,8 @@
-use borrow.Author.Needs.{needs}
 use native.Mathlib.Omega.{arith}
-use mathlib.Core.Path.{_≡_, ap, sym, subst, refl}
+use mathlib.Core.Path.{ap, sym, subst}
 use Rattle.diagrams.proofs.Chain.{sums-none}
 use Rattle.tables.specs.Places.{made}
-use Rattle.walks.specs.Walked.{Summed, Summing}
+use Rattle.walks.specs.Walked.{Summed}
 use Rattle.tables.proofs.Tables.{grew-none}
 use Rattle.walks.proofs.Sum.{summing-small, summing-makes, summing-next, summing-done, summing-full}
 use Rattle.walks.proofs.Once.{table-of}

@@ -3,7 +3,7 @@ use lib.IntN.{ℤ}
 use Rattle.limits.specs.Limits.{sum}
 use Rattle.diagrams.specs.Apply.{Allows}
 use Rattle.tables.specs.Places.{Table}
-use Rattle.walks.specs.Walked.{Summing}
+use Rattle.walks.proofs.Paths.{Summing}
 use Rattle.walks.proofs.chain.Given as given
 
 abbrev pub Inv-loop-i : given.InvT-loop-i

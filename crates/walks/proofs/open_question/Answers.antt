@@ -1,4 +1,3 @@
-use borrow.Author.Needs.{needs}
 use mathlib.Core.Path.{sym, _∙_, subst}
 use Rattle.walks.specs.Stack.{Opening}
 use Rattle.walks.proofs.Once.{can-left, can-right}

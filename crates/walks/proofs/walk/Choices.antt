@@ -3,7 +3,8 @@ use Prim.Native.Nat.{_≤_}
 use lib.IntN.{ℤ}
 use Rattle.diagrams.specs.Apply.{All-right, Asked}
 use Rattle.tables.specs.Places.{made, Table}
-use Rattle.walks.specs.Stack.{frames-of, Walking, left-to-do}
+use Rattle.walks.specs.Stack.{frames-of}
+use Rattle.walks.proofs.Paths.{Walking, left-to-do}
 use Rattle.walks.proofs.walk.Given as given
 
 abbrev pub Inv-loop-answer : given.InvT-loop-answer

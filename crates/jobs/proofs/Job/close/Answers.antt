@@ -29,14 +29,34 @@ extend-requires g c κs = record {
 
 pub ghost-self : need.ghost-self
 ghost-self g c =
-    let h : c .args .self .now .ledger .count < length (c .args .self .now .ledger .records) = inside (c .args .self .now .parts) (c .args .self .now .table) (c .args .self .now .ledger .records) (c .args .self .now .ledger .count) (c .product-product .result) (c .finish-limit .result) (c .last-last .result) (fits-of (c .args .self .now .table) (c .args .self .now .fits)) (c .args .self .now .books) (c .product-product .ensures) (c .args .self .now .few) (c .args .self .now .whole) (c .args .self .now .count) (c .in-rest .ensures tt) in
-    (c .args .self .now .few, (∣ c .in-Some .ensures tt .table .fits ∣₁, (omega (arith, h, c .args .self .now .whole, c .post .ensures .count), (ap length (c .post .ensures .records) ∙ simp length-set (c .args .self .now .whole),
-    (longer-books (c .args .self .now .parts) (c .args .self .now .table) (c .args .self .now .ledger .records) (c .args .self .now .ledger .count) (c .product-product .result) (c .finish-limit .result) (c .last-last .result) (fits-of (c .args .self .now .table) (c .args .self .now .fits)) (c .args .self .now .books) (c .product-product .ensures) (c .args .self .now .few) (c .args .self .now .whole) (c .args .self .now .count) (c .in-rest .ensures tt) (c .extend .last .table) (c .in-Some .edge) (c .in-Some .ensures tt) (c .used-mark .result) (c .used-mark .ensures .nodes (fits-of (c .args .self .now .table) (c .args .self .now .fits))) (c .post .last .self .records) (c .post .last .self .count) (c .post .ensures .records) (c .post .ensures .count), tt)))))
+    let h : c .args .self .now .ledger .count < length (c .args .self .now .ledger .records) = inside (c .args .self .now .parts) (c .args .self .now .table) (c .args .self .now .ledger .records) (c .args .self .now .ledger .count) (c .product-product .result) (c .finish-limit .result) (c .last-last .result) (fits-of (c .args .self .now .table) (c .args .self .now .fits)) (c .args .self .now .books) (c .product-product .ensures) (c .args .self .now .few) (c .args .self .now .whole) (c .args .self .now .count) (c .in-rest .ensures tt) in (
+      c .args .self .now .few,
+      (
+        ∣ c .in-Some .ensures tt .table .fits ∣₁,
+        (
+          omega (arith, h, c .args .self .now .whole, c .post .ensures .count),
+          (
+            ap length (c .post .ensures .records) ∙ simp length-set (c .args .self .now .whole),
+            (longer-books (c .args .self .now .parts) (c .args .self .now .table) (c .args .self .now .ledger .records) (c .args .self .now .ledger .count) (c .product-product .result) (c .finish-limit .result) (c .last-last .result) (fits-of (c .args .self .now .table) (c .args .self .now .fits)) (c .args .self .now .books) (c .product-product .ensures) (c .args .self .now .few) (c .args .self .now .whole) (c .args .self .now .count) (c .in-rest .ensures tt) (c .extend .last .table) (c .in-Some .edge) (c .in-Some .ensures tt) (c .used-mark .result) (c .used-mark .ensures .nodes (fits-of (c .args .self .now .table) (c .args .self .now .fits))) (c .post .last .self .records) (c .post .last .self .count) (c .post .ensures .records) (c .post .ensures .count), tt),
+          ),
+        ),
+      ),
+    )
 
 pub ghost-self-in-None : need.ghost-self-in-None
-ghost-self-in-None g c =
-    (c .args .self .now .few, (∣ c .in-None .ensures tt .fits ∣₁, (c .args .self .now .count, (c .args .self .now .whole,
-    (same-books (c .args .self .now .parts) (c .args .self .now .table) (c .args .self .now .ledger .records) (c .args .self .now .ledger .count) (c .product-product .result) (c .finish-limit .result) (c .last-last .result) (fits-of (c .args .self .now .table) (c .args .self .now .fits)) (c .args .self .now .books) (c .product-product .ensures) (c .args .self .now .few) (c .args .self .now .whole) (c .args .self .now .count) (c .in-rest .ensures tt) (c .extend .last .table) (c .in-None .ensures tt), tt)))))
+ghost-self-in-None g c = (
+  c .args .self .now .few,
+  (
+    ∣ c .in-None .ensures tt .fits ∣₁,
+    (
+      c .args .self .now .count,
+      (
+        c .args .self .now .whole,
+        (same-books (c .args .self .now .parts) (c .args .self .now .table) (c .args .self .now .ledger .records) (c .args .self .now .ledger .count) (c .product-product .result) (c .finish-limit .result) (c .last-last .result) (fits-of (c .args .self .now .table) (c .args .self .now .fits)) (c .args .self .now .books) (c .product-product .ensures) (c .args .self .now .few) (c .args .self .now .whole) (c .args .self .now .count) (c .in-rest .ensures tt) (c .extend .last .table) (c .in-None .ensures tt), tt),
+      ),
+    ),
+  ),
+)
 
 pub returns-in-Some : need.returns-in-Some
 returns-in-Some g c = record {

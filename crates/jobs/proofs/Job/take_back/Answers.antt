@@ -17,9 +17,19 @@ truncate-requires c κs =
     (fits, omega (arith, made-length (c .args .self .now .table) fits, back-fits (c .args .self .now .parts) (made (c .args .self .now .table)) (c .args .self .now .ledger .records) (c .drop-last-mark .last .self .records) (c .args .self .now .ledger .count) (c .drop-last-mark .last .self .count) (c .drop-last-mark .result) (c .args .self .now .books) (c .drop-last-mark .ensures .records) (c .drop-last-mark .ensures .count) (c .drop-last-mark .ensures .mark)))
 
 pub ghost-self : need.ghost-self
-ghost-self c =
-    (c .args .self .now .few, (∣ c .truncate .ensures .fits ∣₁, (omega (arith, c .drop-last-mark .ensures .count, c .args .self .now .count), (ap length (c .drop-last-mark .ensures .records) ∙ c .args .self .now .whole,
-    (back-books (c .args .self .now .parts) (made (c .args .self .now .table)) (c .args .self .now .ledger .records) (c .drop-last-mark .last .self .records) (c .args .self .now .ledger .count) (c .drop-last-mark .last .self .count) (c .drop-last-mark .result) (c .args .self .now .books) (c .drop-last-mark .ensures .records) (c .drop-last-mark .ensures .count) (c .drop-last-mark .ensures .mark) (made (c .truncate .last .self)) (c .truncate .ensures .done), tt)))))
+ghost-self c = (
+  c .args .self .now .few,
+  (
+    ∣ c .truncate .ensures .fits ∣₁,
+    (
+      omega (arith, c .drop-last-mark .ensures .count, c .args .self .now .count),
+      (
+        ap length (c .drop-last-mark .ensures .records) ∙ c .args .self .now .whole,
+        (back-books (c .args .self .now .parts) (made (c .args .self .now .table)) (c .args .self .now .ledger .records) (c .drop-last-mark .last .self .records) (c .args .self .now .ledger .count) (c .drop-last-mark .last .self .count) (c .drop-last-mark .result) (c .args .self .now .books) (c .drop-last-mark .ensures .records) (c .drop-last-mark .ensures .count) (c .drop-last-mark .ensures .mark) (made (c .truncate .last .self)) (c .truncate .ensures .done), tt),
+      ),
+    ),
+  ),
+)
 
 pub returns : need.returns
 returns c =

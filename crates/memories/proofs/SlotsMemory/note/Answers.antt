@@ -1,4 +1,4 @@
-use mathlib.Core.Path.{sym, subst}
+use mathlib.Core.Path.{subst}
 use Rattle.memories.specs.Held.{In-slot}
 use Rattle.memories.proofs.Rings.{slot-set}
 use Rattle.memories.proofs.SlotsMemory.note.Needs as need

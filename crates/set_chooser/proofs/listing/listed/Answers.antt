@@ -19,6 +19,6 @@ returns-in-Whole g c =
     let count = count-is (c .read-all .last .notes) (c .read-all .last .notes .whole .1) (c .read-all .last .notes .whole .2) (c .read-all .last .notes .few) in
     let read = sheet-small (whole t) (places (c .new-job .result)) (length (c .args .places .now)) (c .new-reader .result .sheet .now) (c .args .sheet .now) (c .new-reader .ensures .0) (c .new-job .ensures .places) (omega (arith, c .if-sheet-gt-LONGEST-SHEET .left)) (k .is) in
     subst (λ x. Listed x (c .args .out .now) (c .write-verdict .last .out) (c .write-verdict .result))
-      (listing-is (c .args .sheet .now) (length (c .args .places .now)) (rows-lent (c .args .rows .now)) t (stands (c .read-all .last .job)) (contents (c .names .result .now)) (c .solved .result) read (c .names .ensures)
-        (ap (λ n. standing n (stands (c .read-all .last .job) .limits)) (k .parts ∙ sym count)) (k .names ∙ sym count) (c .solved .ensures))
-      (c .write-verdict .ensures)
+    (listing-is (c .args .sheet .now) (length (c .args .places .now)) (rows-lent (c .args .rows .now)) t (stands (c .read-all .last .job)) (contents (c .names .result .now)) (c .solved .result) read (c .names .ensures)
+    (ap (λ n. standing n (stands (c .read-all .last .job) .limits)) (k .parts ∙ sym count)) (k .names ∙ sym count) (c .solved .ensures))
+    (c .write-verdict .ensures)

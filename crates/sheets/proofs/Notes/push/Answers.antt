@@ -13,9 +13,10 @@ use Rattle.sheets.proofs.Makes.{parts-push}
 use Rattle.sheets.proofs.Notes.push.Needs as need
 
 pub ghost-self : need.ghost-self
-ghost-self c =
-    ((simp length-set (c .args .self .now .whole .0), simp length-set (c .args .self .now .whole .1), simp length-set (c .args .self .now .whole .2)),
-     (omega (arith, c .pre), (agree-set (c .args .self .now .masses) (c .args .self .now .costs) (c .args .self .now .count) _ (c .args .figures .price) (c .args .self .now .whole .0 ∙ sym (c .args .self .now .whole .2)) (c .args .self .now .agree), tt)))
+ghost-self c = (
+  (simp length-set (c .args .self .now .whole .0), simp length-set (c .args .self .now .whole .1), simp length-set (c .args .self .now .whole .2)),
+  (omega (arith, c .pre), (agree-set (c .args .self .now .masses) (c .args .self .now .costs) (c .args .self .now .count) _ (c .args .figures .price) (c .args .self .now .whole .0 ∙ sym (c .args .self .now .whole .2)) (c .args .self .now .agree), tt)),
+)
 
 pub returns : need.returns
 returns c =
@@ -24,7 +25,7 @@ returns c =
     let k : c .args .self .now .count < length (c .args .self .now .costs) = omega (arith, c .pre, c .args .self .now .whole .2) in
     record {
       parts = parts-push (c .args .self .now .waits) (c .args .self .now .costs) (c .args .self .now .count) (c .args .figures .wait) _ w k (length-take-le (c .args .self .now .count) (c .args .self .now .waits) (omega arith) ∙ sym (length-take-le (c .args .self .now .count) (c .args .self .now .costs) (omega arith)))
-        ∙ ap (λ m. parts-of (c .args .self .now) ++ (record { mass = m; wait = c .args .figures .wait; price = c .args .figures .price } ∷ [])) u;
+          ∙ ap (λ m. parts-of (c .args .self .now) ++ (record { mass = m; wait = c .args .figures .wait; price = c .args .figures .price } ∷ [])) u;
       count = refl;
       goal = refl;
     }

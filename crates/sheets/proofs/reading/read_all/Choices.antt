@@ -11,7 +11,7 @@ use Rattle.sheets.proofs.reading.read_all.Given as given
 abbrev pub Inv-loop-record : given.InvT-loop-record
 Inv-loop-record g l =
     Rest (places (l .entry .job)) (l .entry .reader .sheet .now) (l .record) (told-of (l .reader) (l .job) (l .notes)) (l .reader .at)
-      (read-all (suc (length (l .entry .reader .sheet .now))) (places (l .entry .job)) (l .entry .reader .sheet .now) 0 untold 0)
+    (read-all (suc (length (l .entry .reader .sheet .now))) (places (l .entry .job)) (l .entry .reader .sheet .now) 0 untold 0)
     × (places (l .job) ≡ places (l .entry .job))
     × (l .reader .sheet .now ≡ l .entry .reader .sheet .now)
     × (l .record ≤ l .reader .at)

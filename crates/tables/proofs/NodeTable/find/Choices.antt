@@ -1,5 +1,5 @@
 use denote.Ref.{now}
-use Rattle.tables.specs.Chains.{Walk}
+use Rattle.tables.proofs.Linked.{Walk}
 use Rattle.tables.proofs.NodeTable.find.Given as given
 
 abbrev pub Inv-loop-link : given.InvT-loop-link

@@ -1,6 +1,5 @@
 use borrow.Author.Needs.{needs}
-use mathlib.Core.Path.{_≡_, sym, ap, subst}
-use Rattle.std.specs.declared.option.Option.the-variants.{Some, None}
+use mathlib.Core.Path.{_≡_, sym, subst}
 use Rattle.tables.specs.Places.{Made}
 use Rattle.tables.proofs.Tables.{make-same, make-found, make-full, make-new}
 use Rattle.tables.proofs.NodeTable.make.Needs as need

@@ -1,8 +1,8 @@
 use borrow.Author.Needs.{needs}
 use native.Mathlib.Omega.{arith}
-use mathlib.Core.Path.{_≡_, refl, sym, ap, _∙_}
+use mathlib.Core.Path.{_≡_, refl, ap, _∙_}
 use mathlib.Core.List.{List}
-use Prim.Native.Nat.{ℕ, _<_, _≤_, _+_, min}
+use Prim.Native.Nat.{ℕ, _<_, _+_, min}
 use lib.ListN.{length, length-set, take}
 use Rattle.tables.specs.declared.Place.{Place}
 use Rattle.tables.specs.Chains.{head-at, nodes-of}

@@ -1,8 +1,7 @@
-use borrow.Author.Needs.{needs}
 use native.Mathlib.Omega.{arith}
-use mathlib.Core.Path.{_≡_, refl, sym, ap, _∙_, subst}
+use mathlib.Core.Path.{_≡_, sym, ap, _∙_, subst}
 use mathlib.Core.List.{List}
-use Prim.Native.Nat.{ℕ, _<_, _≤_, _+_, _-_, min}
+use Prim.Native.Nat.{ℕ, _<_, _+_, _-_, min}
 use lib.ListN.{length, length-set, take}
 use Rattle.tables.specs.declared.Place.{Place}
 use Rattle.tables.specs.Chains.{next-at, nodes-of, Chained}

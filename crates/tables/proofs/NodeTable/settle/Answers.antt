@@ -1,7 +1,5 @@
-use borrow.Author.Needs.{needs}
 use mathlib.Core.Bool.{true, false}
-use mathlib.Core.Path.{_≡_, sym, ap, ap₂, subst}
-use lib.ListN.{getD}
+use mathlib.Core.Path.{sym, subst}
 use Rattle.diagrams.specs.Apply.{Cofactor}
 use Rattle.diagrams.proofs.Settle.{cofactor-fit, cofactor-out, from-next}
 use Rattle.diagrams.proofs.Steps.{cofactor-skip}

@@ -1,5 +1,4 @@
 use borrow.Author.Needs.{needs}
-use native.Mathlib.Omega.{arith}
 use Rattle.walks.proofs.Frames.{frames-push}
 use Rattle.walks.proofs.Stack.push.Needs as need
 
