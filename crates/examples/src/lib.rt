@@ -6,6 +6,7 @@ use set_chooser::Refusal;
 use set_chooser::Sense;
 use set_chooser::Side;
 use set_chooser::Term;
+use set_chooser::set_chooser_list;
 
 /// A part and its coefficient.
 pub const fn term(part: u8, coefficient: i32) -> Term {
@@ -28,6 +29,13 @@ pub fn close<M: Memory>(
         }
     }
     job.close(draft, Side { sense, bound }, memory)
+}
+
+/// Whether the C entry writes this listing of a sheet, and nothing after it.
+pub fn lists(sheet: &[u8], listing: &[u8]) -> bool {
+    let mut out = [b'.'; 64];
+    let written = set_chooser_list(sheet, &mut out);
+    written == listing.len() as i64 && out.starts_with(listing)
 }
 
 #[cfg(test)]

@@ -6,8 +6,6 @@ use set_chooser::Latest;
 use set_chooser::LatestMemory;
 use set_chooser::Mass;
 use set_chooser::MassGrade;
-use set_chooser::MassPrice;
-use set_chooser::MassPriceGrade;
 use set_chooser::NoMemory;
 use set_chooser::NoMemoryMemory;
 use set_chooser::Place;
@@ -15,8 +13,8 @@ use set_chooser::RefusalDebug;
 use set_chooser::RefusalPartialEq;
 use set_chooser::Row;
 use set_chooser::Rows;
-use set_chooser::Wait;
-use set_chooser::WaitGrade;
+use set_chooser::Slots;
+use set_chooser::SlotsMemory;
 use set_chooser::read_number;
 use set_chooser::set_chooser_list;
 use set_chooser::write_number;
@@ -97,13 +95,6 @@ fn lightest(job: &Job, rows: &mut [Row<Mass>]) -> Result<Option<(u64, i32)>, Ref
     }
 }
 
-fn soonest(job: &Job, rows: &mut [Row<Wait>]) -> Result<Option<(u64, u32)>, Refusal> {
-    match job.solve(&[3, 10, 2, 5], &mut Rows::new(rows))? {
-        Some(answer) => Ok(Some((answer.choice.0, answer.grade.days))),
-        None => Ok(None),
-    }
-}
-
 // The lightest of the four-part set, with a part barred, and with two barred, when nothing fits.
 #[test]
 fn four_parts_by_mass() -> Result<(), Fail> {
@@ -113,6 +104,10 @@ fn four_parts_by_mass() -> Result<(), Fail> {
         one: None,
     }; 64];
     let mut job = Job::new(&mut places);
+    check_eq(four_parts(&mut job, &mut NoMemory::new()), Ok(()))?;
+    check_eq(lightest(&job, &mut rows), Ok(Some((10, 125))))?;
+    check_eq(four_parts(&mut job, &mut Slots::over(&mut [None; 8])), Ok(()))?;
+    check_eq(lightest(&job, &mut rows), Ok(Some((10, 125))))?;
     check_eq(four_parts(&mut job, &mut Latest::new()), Ok(()))?;
     check_eq(lightest(&job, &mut rows), Ok(Some((10, 125))))?;
     check_eq(
@@ -139,19 +134,6 @@ fn four_parts_by_mass() -> Result<(), Fail> {
     check_eq(lightest(&job, &mut rows), Ok(None))?;
     check_eq(job.take_back(), Ok(()))?;
     check_eq(lightest(&job, &mut rows), Ok(Some((5, 220))))
-}
-
-// The soonest of the four-part set.
-#[test]
-fn four_parts_by_wait() -> Result<(), Fail> {
-    let mut places = [Place::EMPTY; 64];
-    let mut rows = [Row {
-        zero: None,
-        one: None,
-    }; 64];
-    let mut job = Job::new(&mut places);
-    check_eq(four_parts(&mut job, &mut NoMemory::new()), Ok(()))?;
-    check_eq(soonest(&job, &mut rows), Ok(Some((5, 3))))
 }
 
 // The refusals of a job, one after another.
@@ -238,14 +220,93 @@ fn numbers_as_published() -> Result<(), Fail> {
     }
 }
 
-// A sheet with a byte after its end is at fault there, and an output that is too short is left alone.
+// Each sheet of the table has its listing.
 #[test]
-fn listings_for_c() -> Result<(), Fail> {
-    let mut out = [b'.'; 40];
-    check_eq(set_chooser_list(b"\x00\x00\x00", &mut out), 33)?;
-    check(out[0] == b'f' && out[33] == b'.')?;
-    check_eq(set_chooser_list(b"\x03\x01\x02\x00\x00", &mut out), 13)?;
-    let mut short = [b'.'; 12];
-    check_eq(set_chooser_list(b"\x03\x01\x02\x00\x00", &mut short), -13)?;
-    check(short[0] == b'.')
+fn sheets_and_listings() -> Result<(), Fail> {
+    for (sheet, listing) in CASES {
+        check(lists(sheet, listing))?;
+    }
+    Ok(())
 }
+
+// A sheet above 32,768 bytes is refused as a whole, and an output that is too short is left alone.
+#[test]
+fn long_sheets_and_short_outputs(rt: LibcRuntime) -> Result<(), Fail> {
+    let longer = vec![in rt.alloc(); 0u8; 32769]?;
+    check(lists(&longer, b"fault 16 layer 3 record 0 place 0\n"))?;
+    let longest = vec![in rt.alloc(); 0u8; 32768]?;
+    check(lists(&longest, b"fault 4 layer 2 record 0 place 0\n"))?;
+    let mut out = [b'.'; 12];
+    check_eq(set_chooser_list(b"\x03\x01\x02\x00\x00", &mut out), -13)?;
+    check(out[0] == b'.')
+}
+
+// Sheets and their listings.
+const CASES: [(&[u8], &[u8]); 33] = [
+    // the example sheet: one of two, by mass
+    (b"\x01\x09\x04pack\xbe\x01\x02\x19\x01\x08\x04lamp<\x05\x1e\x03\x05\x02\x00\x02\x01\x02\x04\x01\x00\x00\x00", b"goal mass 30\nfit lamp\n"),
+    // the four-part set by mass
+    (b"\x01\x08\x03big\xe8\x02\x03(\x01\x0a\x05small\xbe\x01\x0a\x19\x01\x08\x04lampP\x02<\x01\x08\x04spot<\x05\x1e\x02\x09\x00\x00'\x01\x13\x02\x18\x03\x12\x02\x05\x02\x00\x02\x01\x02\x03\x05\x02\x02\x02\x03\x02\x04\x01\x00\x00\x00", b"goal mass 125\nfit small\nfit spot\n"),
+    // the four-part set by wait
+    (b"\x01\x08\x03big\xe8\x02\x03(\x01\x0a\x05small\xbe\x01\x0a\x19\x01\x08\x04lampP\x02<\x01\x08\x04spot<\x05\x1e\x02\x09\x00\x00'\x01\x13\x02\x18\x03\x12\x02\x05\x02\x00\x02\x01\x02\x03\x05\x02\x02\x02\x03\x02\x04\x01\x01\x00\x00", b"goal wait 3\nfit big\nfit lamp\n"),
+    // the four-part set by mass and price
+    (b"\x01\x08\x03big\xe8\x02\x03(\x01\x0a\x05small\xbe\x01\x0a\x19\x01\x08\x04lampP\x02<\x01\x08\x04spot<\x05\x1e\x02\x09\x00\x00'\x01\x13\x02\x18\x03\x12\x02\x05\x02\x00\x02\x01\x02\x03\x05\x02\x02\x02\x03\x02\x04\x01\x02\x00\x00", b"goal mass-price 125 55\nfit small\nfit spot\n"),
+    // with a part barred
+    (b"\x01\x08\x03big\xe8\x02\x03(\x01\x0a\x05small\xbe\x01\x0a\x19\x01\x08\x04lampP\x02<\x01\x08\x04spot<\x05\x1e\x02\x09\x00\x00'\x01\x13\x02\x18\x03\x12\x02\x05\x02\x00\x02\x01\x02\x03\x05\x02\x02\x02\x03\x02\x02\x03\x00\x03\x02\x00\x00", b"goal mass 220\nfit big\nfit lamp\n"),
+    // with two barred nothing fits
+    (b"\x01\x08\x03big\xe8\x02\x03(\x01\x0a\x05small\xbe\x01\x0a\x19\x01\x08\x04lampP\x02<\x01\x08\x04spot<\x05\x1e\x02\x09\x00\x00'\x01\x13\x02\x18\x03\x12\x02\x05\x02\x00\x02\x01\x02\x03\x05\x02\x02\x02\x03\x02\x02\x03\x00\x03\x02\x02\x03\x00\x00\x02\x00\x00", b"nothing fits\n"),
+    // a part that a later choice needs anyway
+    (b"\x01\x05\x01a\x02\x09\x00\x01\x05\x01b\x02\x03\x00\x01\x05\x01c\x02\x04\x00\x03\x03\x02\x00\x02\x03\x05\x02\x01\x02\x02\x02\x04\x01\x01\x00\x00", b"goal wait 9\nfit a\nfit b\n"),
+    // a part that no limit names and that makes the set lighter
+    (b"\x01\x07\x03gas\x09\x00\x00\x00\x00", b"goal mass -5\nfit gas\n"),
+    // no parts and no limits
+    (b"\x00\x00", b"goal mass 0\n"),
+    // no parts, and a limit that cannot be kept
+    (b"\x03\x01\x02\x00\x00", b"nothing fits\n"),
+    // 1: nothing at all
+    (b"", b"fault 1 layer 1 record 0 place 0\n"),
+    // 1: a length is cut short
+    (b"\x01\x09\x04pack\xbe\x01\x02\x19\x02\x80", b"fault 1 layer 1 record 1 place 12\n"),
+    // 2: a kind that is not shortest
+    (b"\x80\x00", b"fault 2 layer 1 record 0 place 0\n"),
+    // 2: a fifth byte above 15
+    (b"\xff\xff\xff\xff\x10", b"fault 2 layer 1 record 0 place 0\n"),
+    // 3: a kind above 4
+    (b"\x05\x00", b"fault 3 layer 2 record 0 place 0\n"),
+    // 3: a part after a limit
+    (b"\x02\x01\x00\x01\x09\x04pack\xbe\x01\x02\x19\x00\x00", b"fault 3 layer 2 record 1 place 3\n"),
+    // 3: a second goal
+    (b"\x04\x01\x00\x04\x01\x00\x00\x00", b"fault 3 layer 2 record 1 place 3\n"),
+    // 4: a payload past the sheet
+    (b"\x02\x02\x00", b"fault 4 layer 2 record 0 place 0\n"),
+    // 4: a name past its payload
+    (b"\x01\x02\x02a", b"fault 4 layer 2 record 0 place 0\n"),
+    // 4: a byte left over in a part
+    (b"\x01\x06\x01a\x00\x00\x00\x00\x00\x00", b"fault 4 layer 2 record 0 place 0\n"),
+    // 4: a byte after the end
+    (b"\x00\x00\x00", b"fault 4 layer 2 record 0 place 0\n"),
+    // 5: a name of no bytes
+    (b"\x01\x04\x00\x00\x00\x00", b"fault 5 layer 2 record 0 place 0\n"),
+    // 5: a space in a name
+    (b"\x01\x05\x01\x20\x00\x00\x00", b"fault 5 layer 2 record 0 place 0\n"),
+    // 5: the same name twice
+    (b"\x01\x09\x04pack\xbe\x01\x02\x19\x01\x09\x04pack\xbe\x01\x02\x19\x00\x00", b"fault 5 layer 2 record 1 place 11\n"),
+    // 6: a goal above 2
+    (b"\x04\x01\x03", b"fault 6 layer 2 record 0 place 0\n"),
+    // 7: a part that the sheet lacks, with coefficient 0
+    (b"\x01\x09\x04pack\xbe\x01\x02\x19\x02\x03\x00\x01\x00\x00\x00", b"fault 7 layer 3 record 1 place 11\n"),
+    // 7: a part above 47
+    (b"\x01\x09\x04pack\xbe\x01\x02\x19\x02\x02\x000", b"fault 7 layer 3 record 1 place 11\n"),
+    // 8: a part twice in a limit
+    (b"\x01\x09\x04pack\xbe\x01\x02\x19\x02\x04\x00\x00\x02\x00", b"fault 8 layer 3 record 1 place 11\n"),
+    // 9: a mass of 1,000,001
+    (b"\x01\x07\x01a\x82\x89z\x00\x00", b"fault 9 layer 2 record 0 place 0\n"),
+    // a mass of -1,000,000
+    (b"\x01\x07\x01a\xff\x88z\x00\x00\x00\x00", b"goal mass -1000000\nfit a\n"),
+    // 9: a coefficient of -1,000,001
+    (b"\x01\x09\x04pack\xbe\x01\x02\x19\x02\x05\x00\x00\x81\x89z", b"fault 9 layer 3 record 1 place 11\n"),
+    // 9: a bound of 100,000,001, once the record is read
+    (b"\x01\x09\x04pack\xbe\x01\x02\x19\x02\x04\x82\x84\xaf_", b"fault 9 layer 3 record 1 place 11\n"),
+    // a bound of 100,000,000
+    (b"\x01\x09\x04pack\xbe\x01\x02\x19\x02\x04\x80\x84\xaf_\x00\x00", b"goal mass 0\n"),
+];

@@ -28,10 +28,11 @@ digit-more n h k = ap length (decimal-step n h k) ∙ length-append (decimal (n 
 pub puts-digit : (o : List ℕ) (at n : ℕ) → n < 10 → set o at (48 + n) ≡ sets o at (decimal n)
 puts-digit o at n h = sym (ap (sets o at) (decimal-digit n h))
 
-pub puts-digits : (o o₁ : List ℕ) (at next n : ℕ) → 10 ≤ n → n < 2 ^ 64 → o₁ ≡ sets o at (decimal (n / 10)) → next ≡ at + length (decimal (n / 10))
-    → set o₁ next (48 + n % 10) ≡ sets o at (decimal n)
-puts-digits o o₁ at next n h k e f =
-    chain o o₁ (set o₁ next (48 + n % 10)) at next (decimal (n / 10)) ((48 + n % 10) ∷ []) e f refl ∙ ap (sets o at) (sym (decimal-step n h k))
+pub puts-digits : (o o₁ : List ℕ) (at next n b : ℕ) → 10 ≤ n → n < 2 ^ 64 → b ≡ 48 + n % 10 → o₁ ≡ sets o at (decimal (n / 10)) → next ≡ at + length (decimal (n / 10))
+    → set o₁ next b ≡ sets o at (decimal n)
+puts-digits o o₁ at next n b h k d e f =
+    ap (set o₁ next) d
+    ∙ chain o o₁ (set o₁ next (48 + n % 10)) at next (decimal (n / 10)) ((48 + n % 10) ∷ []) e f refl ∙ ap (sets o at) (sym (decimal-step n h k))
 
 pub fit-length : (name : List ℕ) → length (fit-line name) ≡ 5 + length name
 fit-length name = let l = length-append name (10 ∷ []) in omega arith

@@ -1,6 +1,7 @@
 //! A sheet's records, written one after another into a lent slice.
 ghost use mathlib.Core.Path.{_≡_};
-ghost use Rattle.recording.specs.Writing.{refusal-number};
+ghost use Rattle.records.specs.Sheets.{goal-says, end-says};
+ghost use Rattle.recording.specs.Writing.{refusal-number, saying};
 use limits::Sense;
 use limits::drafts::Term;
 use records::Goal;
@@ -50,6 +51,22 @@ pub enum Entry<'a> {
     },
     Goal(Goal),
     End,
+}
+
+// The prover follows no literal of a type with a lifetime that holds no reference, so these two entries are made by calls.
+
+/// The entry of a goal.
+pub fn goal_entry(goal: Goal) -> Entry<'static>
+    ensures { λ r. ⌜ saying r ≡ goal-says goal ⌝ }
+{
+    Entry::Goal(goal)
+}
+
+/// The entry of the end.
+pub fn end_entry() -> Entry<'static>
+    ensures { λ r. ⌜ saying r ≡ end-says ⌝ }
+{
+    Entry::End
 }
 
 /// A lent slice, and how many of its bytes are written.

@@ -49,6 +49,8 @@ pub use numbers::write_signed;
 pub use recording::Entry;
 pub use recording::Refusal as WriteRefusal;
 pub use recording::Writer;
+pub use recording::end_entry;
+pub use recording::goal_entry;
 pub use records::Goal;
 pub use records::Placed;
 pub use records::Reader;

@@ -30,6 +30,6 @@ pub returns : need.returns
 returns t c =
     let more = digit-more (c .args .n) (omega arith) (omega arith) in (
       omega arith,
-      puts-digits (c .args .out .now) (c .put-decimal-next .last .out) (c .args .at) (c .put-decimal-next .result) (c .args .n) (omega arith) (omega arith)
+      puts-digits (c .args .out .now) (c .put-decimal-next .last .out) (c .args .at) (c .put-decimal-next .result) (c .args .n) _ (omega arith) (omega arith) (search needs)
           (c .put-decimal-next .ensures .1) (c .put-decimal-next .ensures .0),
     )
