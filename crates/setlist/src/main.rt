@@ -20,12 +20,14 @@ const MOST_PLACES: usize = 60_000;
 // A listing is never longer.
 const LONGEST_LISTING: usize = 1043;
 
+const USAGE: &str = "usage: setlist [--places N] < SHEET, with N from 1 to 60000";
+
+// A number of places, from 1 to 60,000.
 fn parsed(text: &str) -> Result<usize, AnyError> {
-    let places = text.parse::<usize>()?;
-    if places < 1 || places > MOST_PLACES {
-        return Err("--places takes a number from 1 to 60000".into());
+    match text.parse::<usize>() {
+        Ok(places) if places >= 1 && places <= MOST_PLACES => Ok(places),
+        _ => Err(USAGE.into()),
     }
-    Ok(places)
 }
 
 // The number of places that the arguments ask for.
@@ -34,14 +36,11 @@ fn places_asked(rt: &LibcRuntime) -> Result<usize, AnyError> {
     let Some(option) = args.next() else {
         return Ok(DEFAULT_PLACES);
     };
-    if option.as_str() != "--places" {
-        return Err("usage: setlist [--places N] < SHEET".into());
-    }
     let Some(count) = args.next() else {
-        return Err("--places takes a number from 1 to 60000".into());
+        return Err(USAGE.into());
     };
-    if args.next().is_some() {
-        return Err("usage: setlist [--places N] < SHEET".into());
+    if option.as_str() != "--places" || args.next().is_some() {
+        return Err(USAGE.into());
     }
     parsed(count.as_str())
 }
