@@ -4,20 +4,13 @@ use set_chooser::ChoiceDebug;
 use set_chooser::ChoicePartialEq;
 use set_chooser::Latest;
 use set_chooser::LatestMemory;
-use set_chooser::Mass;
-use set_chooser::MassGrade;
 use set_chooser::NoMemory;
 use set_chooser::NoMemoryMemory;
 use set_chooser::Place;
 use set_chooser::RefusalDebug;
 use set_chooser::RefusalPartialEq;
-use set_chooser::Row;
-use set_chooser::Rows;
 use set_chooser::Slots;
 use set_chooser::SlotsMemory;
-use set_chooser::read_number;
-use set_chooser::set_chooser_list;
-use set_chooser::write_number;
 use std::test::*;
 
 // At most one of two parts needs four nodes, also twice: a table of four places takes it, one of three refuses.
@@ -106,7 +99,10 @@ fn four_parts_by_mass() -> Result<(), Fail> {
     let mut job = Job::new(&mut places);
     check_eq(four_parts(&mut job, &mut NoMemory::new()), Ok(()))?;
     check_eq(lightest(&job, &mut rows), Ok(Some((10, 125))))?;
-    check_eq(four_parts(&mut job, &mut Slots::over(&mut [None; 8])), Ok(()))?;
+    check_eq(
+        four_parts(&mut job, &mut Slots::over(&mut [None; 8])),
+        Ok(()),
+    )?;
     check_eq(lightest(&job, &mut rows), Ok(Some((10, 125))))?;
     check_eq(four_parts(&mut job, &mut Latest::new()), Ok(()))?;
     check_eq(lightest(&job, &mut rows), Ok(Some((10, 125))))?;
@@ -206,18 +202,71 @@ fn refusals_of_a_job() -> Result<(), Fail> {
     )
 }
 
-// Published unsigned LEB128 vectors, read and written.
+// Unsigned LEB128 vectors as the DWARF standard publishes them, and the ends of the range.
 #[test]
 fn numbers_as_published() -> Result<(), Fail> {
-    let mut out = [0u8; 2];
-    check_eq(write_number(&mut out, 0, 128), Some(2))?;
-    check(out[0] == 0x80 && out[1] == 0x01)?;
-    check_eq(write_number(&mut out, 0, 12857), Some(2))?;
-    check(out[0] == 0xb9 && out[1] == 0x64)?;
-    match read_number(&[0xb9, 0x64], 0) {
-        Ok((value, next)) => check(value == 12857 && next == 2),
-        Err(_) => Err(Fail::new("refused")),
+    for (value, bytes) in NUMBERS {
+        check(spells(value, bytes))?;
     }
+    Ok(())
+}
+
+// 64 limits stand, the next is refused, and one that is taken back makes room again.
+#[test]
+fn sixty_four_limits() -> Result<(), Fail> {
+    let mut places = [Place::EMPTY; 2];
+    let mut job = Job::new(&mut places);
+    for _ in 0..64 {
+        check_eq(
+            close(&mut job, &[], Sense::AtMost, 0, &mut NoMemory::new()),
+            Ok(()),
+        )?;
+    }
+    check_eq(
+        close(&mut job, &[], Sense::AtMost, 0, &mut NoMemory::new()),
+        Err(Refusal::TooManyLimits),
+    )?;
+    check_eq(job.take_back(), Ok(()))?;
+    check_eq(
+        close(&mut job, &[], Sense::AtMost, 0, &mut NoMemory::new()),
+        Ok(()),
+    )
+}
+
+// The tests of a solve in their order: the weights' number, their range, the rows.
+#[test]
+fn refusals_of_a_solve() -> Result<(), Fail> {
+    let mut places = [Place::EMPTY; 8];
+    let mut one = [Row {
+        zero: None,
+        one: None,
+    }; 1];
+    let mut two = [Row {
+        zero: None,
+        one: None,
+    }; 2];
+    let mut job = Job::new(&mut places);
+    check_eq(job.begin(1), Ok(()))?;
+    check_eq(
+        close(
+            &mut job,
+            &[term(0, 1)],
+            Sense::AtMost,
+            0,
+            &mut NoMemory::new(),
+        ),
+        Ok(()),
+    )?;
+    check_eq(refusal(&job, &[], &mut []), Some(Refusal::WrongCount))?;
+    check_eq(
+        refusal(&job, &[1_000_001], &mut []),
+        Some(Refusal::OutOfRange),
+    )?;
+    check_eq(
+        refusal(&job, &[1_000_000], &mut one),
+        Some(Refusal::TooFewRows),
+    )?;
+    check_eq(refusal(&job, &[1_000_000], &mut two), None)
 }
 
 // Each sheet of the table has its listing.
@@ -241,24 +290,59 @@ fn long_sheets_and_short_outputs(rt: LibcRuntime) -> Result<(), Fail> {
     check(out[0] == b'.')
 }
 
+const NUMBERS: [(u32, &[u8]); 8] = [
+    (0, b"\x00"),
+    (2, b"\x02"),
+    (127, b"\x7f"),
+    (128, b"\x80\x01"),
+    (129, b"\x81\x01"),
+    (130, b"\x82\x01"),
+    (12857, b"\xb9\x64"),
+    (4_294_967_295, b"\xff\xff\xff\xff\x0f"),
+];
+
 // Sheets and their listings.
 const CASES: [(&[u8], &[u8]); 33] = [
     // the example sheet: one of two, by mass
-    (b"\x01\x09\x04pack\xbe\x01\x02\x19\x01\x08\x04lamp<\x05\x1e\x03\x05\x02\x00\x02\x01\x02\x04\x01\x00\x00\x00", b"goal mass 30\nfit lamp\n"),
+    (
+        b"\x01\x09\x04pack\xbe\x01\x02\x19\x01\x08\x04lamp<\x05\x1e\x03\x05\x02\x00\x02\x01\x02\x04\x01\x00\x00\x00",
+        b"goal mass 30\nfit lamp\n",
+    ),
     // the four-part set by mass
-    (b"\x01\x08\x03big\xe8\x02\x03(\x01\x0a\x05small\xbe\x01\x0a\x19\x01\x08\x04lampP\x02<\x01\x08\x04spot<\x05\x1e\x02\x09\x00\x00'\x01\x13\x02\x18\x03\x12\x02\x05\x02\x00\x02\x01\x02\x03\x05\x02\x02\x02\x03\x02\x04\x01\x00\x00\x00", b"goal mass 125\nfit small\nfit spot\n"),
+    (
+        b"\x01\x08\x03big\xe8\x02\x03(\x01\x0a\x05small\xbe\x01\x0a\x19\x01\x08\x04lampP\x02<\x01\x08\x04spot<\x05\x1e\x02\x09\x00\x00'\x01\x13\x02\x18\x03\x12\x02\x05\x02\x00\x02\x01\x02\x03\x05\x02\x02\x02\x03\x02\x04\x01\x00\x00\x00",
+        b"goal mass 125\nfit small\nfit spot\n",
+    ),
     // the four-part set by wait
-    (b"\x01\x08\x03big\xe8\x02\x03(\x01\x0a\x05small\xbe\x01\x0a\x19\x01\x08\x04lampP\x02<\x01\x08\x04spot<\x05\x1e\x02\x09\x00\x00'\x01\x13\x02\x18\x03\x12\x02\x05\x02\x00\x02\x01\x02\x03\x05\x02\x02\x02\x03\x02\x04\x01\x01\x00\x00", b"goal wait 3\nfit big\nfit lamp\n"),
+    (
+        b"\x01\x08\x03big\xe8\x02\x03(\x01\x0a\x05small\xbe\x01\x0a\x19\x01\x08\x04lampP\x02<\x01\x08\x04spot<\x05\x1e\x02\x09\x00\x00'\x01\x13\x02\x18\x03\x12\x02\x05\x02\x00\x02\x01\x02\x03\x05\x02\x02\x02\x03\x02\x04\x01\x01\x00\x00",
+        b"goal wait 3\nfit big\nfit lamp\n",
+    ),
     // the four-part set by mass and price
-    (b"\x01\x08\x03big\xe8\x02\x03(\x01\x0a\x05small\xbe\x01\x0a\x19\x01\x08\x04lampP\x02<\x01\x08\x04spot<\x05\x1e\x02\x09\x00\x00'\x01\x13\x02\x18\x03\x12\x02\x05\x02\x00\x02\x01\x02\x03\x05\x02\x02\x02\x03\x02\x04\x01\x02\x00\x00", b"goal mass-price 125 55\nfit small\nfit spot\n"),
+    (
+        b"\x01\x08\x03big\xe8\x02\x03(\x01\x0a\x05small\xbe\x01\x0a\x19\x01\x08\x04lampP\x02<\x01\x08\x04spot<\x05\x1e\x02\x09\x00\x00'\x01\x13\x02\x18\x03\x12\x02\x05\x02\x00\x02\x01\x02\x03\x05\x02\x02\x02\x03\x02\x04\x01\x02\x00\x00",
+        b"goal mass-price 125 55\nfit small\nfit spot\n",
+    ),
     // with a part barred
-    (b"\x01\x08\x03big\xe8\x02\x03(\x01\x0a\x05small\xbe\x01\x0a\x19\x01\x08\x04lampP\x02<\x01\x08\x04spot<\x05\x1e\x02\x09\x00\x00'\x01\x13\x02\x18\x03\x12\x02\x05\x02\x00\x02\x01\x02\x03\x05\x02\x02\x02\x03\x02\x02\x03\x00\x03\x02\x00\x00", b"goal mass 220\nfit big\nfit lamp\n"),
+    (
+        b"\x01\x08\x03big\xe8\x02\x03(\x01\x0a\x05small\xbe\x01\x0a\x19\x01\x08\x04lampP\x02<\x01\x08\x04spot<\x05\x1e\x02\x09\x00\x00'\x01\x13\x02\x18\x03\x12\x02\x05\x02\x00\x02\x01\x02\x03\x05\x02\x02\x02\x03\x02\x02\x03\x00\x03\x02\x00\x00",
+        b"goal mass 220\nfit big\nfit lamp\n",
+    ),
     // with two barred nothing fits
-    (b"\x01\x08\x03big\xe8\x02\x03(\x01\x0a\x05small\xbe\x01\x0a\x19\x01\x08\x04lampP\x02<\x01\x08\x04spot<\x05\x1e\x02\x09\x00\x00'\x01\x13\x02\x18\x03\x12\x02\x05\x02\x00\x02\x01\x02\x03\x05\x02\x02\x02\x03\x02\x02\x03\x00\x03\x02\x02\x03\x00\x00\x02\x00\x00", b"nothing fits\n"),
+    (
+        b"\x01\x08\x03big\xe8\x02\x03(\x01\x0a\x05small\xbe\x01\x0a\x19\x01\x08\x04lampP\x02<\x01\x08\x04spot<\x05\x1e\x02\x09\x00\x00'\x01\x13\x02\x18\x03\x12\x02\x05\x02\x00\x02\x01\x02\x03\x05\x02\x02\x02\x03\x02\x02\x03\x00\x03\x02\x02\x03\x00\x00\x02\x00\x00",
+        b"nothing fits\n",
+    ),
     // a part that a later choice needs anyway
-    (b"\x01\x05\x01a\x02\x09\x00\x01\x05\x01b\x02\x03\x00\x01\x05\x01c\x02\x04\x00\x03\x03\x02\x00\x02\x03\x05\x02\x01\x02\x02\x02\x04\x01\x01\x00\x00", b"goal wait 9\nfit a\nfit b\n"),
+    (
+        b"\x01\x05\x01a\x02\x09\x00\x01\x05\x01b\x02\x03\x00\x01\x05\x01c\x02\x04\x00\x03\x03\x02\x00\x02\x03\x05\x02\x01\x02\x02\x02\x04\x01\x01\x00\x00",
+        b"goal wait 9\nfit a\nfit b\n",
+    ),
     // a part that no limit names and that makes the set lighter
-    (b"\x01\x07\x03gas\x09\x00\x00\x00\x00", b"goal mass -5\nfit gas\n"),
+    (
+        b"\x01\x07\x03gas\x09\x00\x00\x00\x00",
+        b"goal mass -5\nfit gas\n",
+    ),
     // no parts and no limits
     (b"\x00\x00", b"goal mass 0\n"),
     // no parts, and a limit that cannot be kept
@@ -266,47 +350,95 @@ const CASES: [(&[u8], &[u8]); 33] = [
     // 1: nothing at all
     (b"", b"fault 1 layer 1 record 0 place 0\n"),
     // 1: a length is cut short
-    (b"\x01\x09\x04pack\xbe\x01\x02\x19\x02\x80", b"fault 1 layer 1 record 1 place 12\n"),
+    (
+        b"\x01\x09\x04pack\xbe\x01\x02\x19\x02\x80",
+        b"fault 1 layer 1 record 1 place 12\n",
+    ),
     // 2: a kind that is not shortest
     (b"\x80\x00", b"fault 2 layer 1 record 0 place 0\n"),
     // 2: a fifth byte above 15
-    (b"\xff\xff\xff\xff\x10", b"fault 2 layer 1 record 0 place 0\n"),
+    (
+        b"\xff\xff\xff\xff\x10",
+        b"fault 2 layer 1 record 0 place 0\n",
+    ),
     // 3: a kind above 4
     (b"\x05\x00", b"fault 3 layer 2 record 0 place 0\n"),
     // 3: a part after a limit
-    (b"\x02\x01\x00\x01\x09\x04pack\xbe\x01\x02\x19\x00\x00", b"fault 3 layer 2 record 1 place 3\n"),
+    (
+        b"\x02\x01\x00\x01\x09\x04pack\xbe\x01\x02\x19\x00\x00",
+        b"fault 3 layer 2 record 1 place 3\n",
+    ),
     // 3: a second goal
-    (b"\x04\x01\x00\x04\x01\x00\x00\x00", b"fault 3 layer 2 record 1 place 3\n"),
+    (
+        b"\x04\x01\x00\x04\x01\x00\x00\x00",
+        b"fault 3 layer 2 record 1 place 3\n",
+    ),
     // 4: a payload past the sheet
     (b"\x02\x02\x00", b"fault 4 layer 2 record 0 place 0\n"),
     // 4: a name past its payload
     (b"\x01\x02\x02a", b"fault 4 layer 2 record 0 place 0\n"),
     // 4: a byte left over in a part
-    (b"\x01\x06\x01a\x00\x00\x00\x00\x00\x00", b"fault 4 layer 2 record 0 place 0\n"),
+    (
+        b"\x01\x06\x01a\x00\x00\x00\x00\x00\x00",
+        b"fault 4 layer 2 record 0 place 0\n",
+    ),
     // 4: a byte after the end
     (b"\x00\x00\x00", b"fault 4 layer 2 record 0 place 0\n"),
     // 5: a name of no bytes
-    (b"\x01\x04\x00\x00\x00\x00", b"fault 5 layer 2 record 0 place 0\n"),
+    (
+        b"\x01\x04\x00\x00\x00\x00",
+        b"fault 5 layer 2 record 0 place 0\n",
+    ),
     // 5: a space in a name
-    (b"\x01\x05\x01\x20\x00\x00\x00", b"fault 5 layer 2 record 0 place 0\n"),
+    (
+        b"\x01\x05\x01\x20\x00\x00\x00",
+        b"fault 5 layer 2 record 0 place 0\n",
+    ),
     // 5: the same name twice
-    (b"\x01\x09\x04pack\xbe\x01\x02\x19\x01\x09\x04pack\xbe\x01\x02\x19\x00\x00", b"fault 5 layer 2 record 1 place 11\n"),
+    (
+        b"\x01\x09\x04pack\xbe\x01\x02\x19\x01\x09\x04pack\xbe\x01\x02\x19\x00\x00",
+        b"fault 5 layer 2 record 1 place 11\n",
+    ),
     // 6: a goal above 2
     (b"\x04\x01\x03", b"fault 6 layer 2 record 0 place 0\n"),
     // 7: a part that the sheet lacks, with coefficient 0
-    (b"\x01\x09\x04pack\xbe\x01\x02\x19\x02\x03\x00\x01\x00\x00\x00", b"fault 7 layer 3 record 1 place 11\n"),
+    (
+        b"\x01\x09\x04pack\xbe\x01\x02\x19\x02\x03\x00\x01\x00\x00\x00",
+        b"fault 7 layer 3 record 1 place 11\n",
+    ),
     // 7: a part above 47
-    (b"\x01\x09\x04pack\xbe\x01\x02\x19\x02\x02\x000", b"fault 7 layer 3 record 1 place 11\n"),
+    (
+        b"\x01\x09\x04pack\xbe\x01\x02\x19\x02\x02\x000",
+        b"fault 7 layer 3 record 1 place 11\n",
+    ),
     // 8: a part twice in a limit
-    (b"\x01\x09\x04pack\xbe\x01\x02\x19\x02\x04\x00\x00\x02\x00", b"fault 8 layer 3 record 1 place 11\n"),
+    (
+        b"\x01\x09\x04pack\xbe\x01\x02\x19\x02\x04\x00\x00\x02\x00",
+        b"fault 8 layer 3 record 1 place 11\n",
+    ),
     // 9: a mass of 1,000,001
-    (b"\x01\x07\x01a\x82\x89z\x00\x00", b"fault 9 layer 2 record 0 place 0\n"),
+    (
+        b"\x01\x07\x01a\x82\x89z\x00\x00",
+        b"fault 9 layer 2 record 0 place 0\n",
+    ),
     // a mass of -1,000,000
-    (b"\x01\x07\x01a\xff\x88z\x00\x00\x00\x00", b"goal mass -1000000\nfit a\n"),
+    (
+        b"\x01\x07\x01a\xff\x88z\x00\x00\x00\x00",
+        b"goal mass -1000000\nfit a\n",
+    ),
     // 9: a coefficient of -1,000,001
-    (b"\x01\x09\x04pack\xbe\x01\x02\x19\x02\x05\x00\x00\x81\x89z", b"fault 9 layer 3 record 1 place 11\n"),
+    (
+        b"\x01\x09\x04pack\xbe\x01\x02\x19\x02\x05\x00\x00\x81\x89z",
+        b"fault 9 layer 3 record 1 place 11\n",
+    ),
     // 9: a bound of 100,000,001, once the record is read
-    (b"\x01\x09\x04pack\xbe\x01\x02\x19\x02\x04\x82\x84\xaf_", b"fault 9 layer 3 record 1 place 11\n"),
+    (
+        b"\x01\x09\x04pack\xbe\x01\x02\x19\x02\x04\x82\x84\xaf_",
+        b"fault 9 layer 3 record 1 place 11\n",
+    ),
     // a bound of 100,000,000
-    (b"\x01\x09\x04pack\xbe\x01\x02\x19\x02\x04\x80\x84\xaf_\x00\x00", b"goal mass 0\n"),
+    (
+        b"\x01\x09\x04pack\xbe\x01\x02\x19\x02\x04\x80\x84\xaf_\x00\x00",
+        b"goal mass 0\n",
+    ),
 ];
