@@ -56,8 +56,8 @@ impl<'a, G: Grade> Rows<'a, G> {
         self.rows.len()
     }
 
-    /// Fills row i.
-    pub fn set(&mut self, i: usize, row: Row<G>)
+    // Fills row i.
+    fn set(&mut self, i: usize, row: Row<G>)
         requires { ⌜ i < length (now (now self .rows)) ⌝ }
         ensures value { λ _. ⌜ now (now (self .exit) .rows) ≡ set (now (now (self .entry) .rows)) i row ⌝ }
         ensures named { λ _. ⌜ name (now (self .exit) .rows) ≡ name (now (self .entry) .rows) ⌝ }
