@@ -1,4 +1,6 @@
 //! Edge-valued decision diagrams: nodes, edges, and the questions that a walk answers.
+#![tactic(auto)]
+
 pub mod laws;
 
 /// What an edge leads to: the terminal, or the node at a place of a table.

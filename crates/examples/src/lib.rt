@@ -1,4 +1,6 @@
 //! Worked examples, run through the calls that makers reach.
+#![tactic(auto)]
+
 pub mod cost_wait;
 
 use set_chooser::{

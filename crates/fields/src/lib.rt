@@ -1,6 +1,8 @@
 //! The fields of a sheet's records, read one by one.
 //!
 //! In each, `body` is the sheet up to the end of the record's payload, `place` the record's first byte, and `at` the place that is read.
+#![tactic(auto)]
+
 ghost use Rattle.std.specs.Prelude.{◌≡◌, ℕ, ◌<◌, ◌≤◌, length, IfOk};
 ghost use Rattle.numbers.specs.Numbers.{fault_number};
 ghost use Rattle.fields.specs.Faults.{reason_number, layer_number};

@@ -25,11 +25,11 @@ priced_size x = max (unsigned_abs x.grams) x.price
 
 -- mass: signed grams, joined by addition; the size is the absolute value
 abbrev pub mass_kind : Kind ℤ
-mass_kind = record { empty = pos 0; join = ◌+ℤ◌; no_later = le_z; size = unsigned_abs }
+mass_kind = record { empty = pos 0; join = ◌+ℤ◌; no_later = int_le; size = unsigned_abs }
 
 -- wait: days from 0, joined by taking the larger; the size is the days
 abbrev pub wait_kind : Kind ℕ
-wait_kind = record { empty = 0; join = max; no_later = leb; size = λ n. n }
+wait_kind = record { empty = 0; join = max; no_later = nat_le; size = λ n. n }
 
 -- mass with price
 abbrev pub mass_price_kind : Kind Priced

@@ -1,4 +1,6 @@
 //! Kinds of grade: what a choice adds up to, and which of two ranks first.
+#![tactic(auto)]
+
 ghost use Rattle.std.specs.Prelude.{◌≡◌, ℕ, ◌+◌, ◌<◌, ◌≤◌, ℤ, MatchOption};
 ghost use Rattle.grades.specs.Laws.{Kind, Laws};
 ghost use Rattle.grades.specs.Kinds.{Priced, priced, mass_kind, wait_kind, mass_price_kind};
@@ -205,20 +207,20 @@ impl Grade for MassPrice {
 
 /// For every lawful kind, the rule's choice is first among those that keep all limits, and there is none exactly if none keeps them.
 pub fn rule_is_first<G: Grade>()
-    ensures { RuleIsFirst kind }
+    ensures { RuleIsFirst G.kind }
 {}
 
 /// For every lawful kind, the rule's choice is settled part by part, from part 0 up.
 pub fn rule_settles<G: Grade>()
-    ensures { RuleSettles kind }
+    ensures { RuleSettles G.kind }
 {}
 
 /// For every lawful kind, the best grade is least among the grades of all choices that keep all limits.
 pub fn best_is_best<G: Grade>()
-    ensures { BestIsBest kind }
+    ensures { BestIsBest G.kind }
 {}
 
 /// For every lawful kind, grades of choices among 48 parts stay within the sizes whose join is exact.
 pub fn sizes_stay<G: Grade>()
-    ensures { SizesStay kind }
+    ensures { SizesStay G.kind }
 {}

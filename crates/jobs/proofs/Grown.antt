@@ -1,5 +1,5 @@
 -- From what the walk does with one limit's three functions to what a job's table holds.
-use Rattle.std.proofs.Common.{◌≡◌, ℕ, zero, suc, ◌+◌, ◌-◌, ◌<◌, ◌≤◌, Bool, true, false, cond, not, ◌&&◌, ◌⊎◌, List, [], ◌∷◌, ◌++◌, length, replicate, ℤ, pos, ◌+ℤ◌, ◌-ℤ◌, ◌*ℤ◌, Some, sym, refl, ap, ◌∙◌, subst, ap₂, inl, inr, ⊎_elim, append_nil, add-zero, zero-add, arith}
+use Rattle.std.proofs.Common.{◌≡◌, ℕ, zero, suc, ◌+◌, ◌-◌, ◌<◌, ◌≤◌, Bool, true, false, cond, not, ◌&&◌, ◌⊎◌, List, [], ◌∷◌, ◌++◌, length, replicate, ℤ, pos, ◌+ℤ◌, ◌-ℤ◌, ◌*ℤ◌, Some, sym, refl, ap, ◌∙◌, subst, ap₂, inl, inr, ⊎_elim, append-nil, add-zero, zero-add, arith}
 use lib.ListN.{length-replicate}
 use Rattle.std.specs.List.{slice_get}
 use Rattle.std.proofs.lemmas.Bool.{cases_lt}
@@ -79,7 +79,7 @@ module _ (parts : ℕ) (ls : List Limit) (l : Limit) (t : NodeTable) (p : Edge) 
       needed_ext parts _ _ (λ c e. ap (λ z. z *ℤ indicator (keeps l c)) (product_is ls (λ d. pos 1) true c refl ∙ sym (held.denotes c e))) in
       ap (needed_all parts) (built_more ls (l ∷ []) (λ c. pos 1))
       ∙ (needed_more parts (built ls (λ c. pos 1)) (built (l ∷ []) (product_from ls (λ c. pos 1)))
-      ∙ ap (λ u. before ++ (needed parts (sum l.coefficients) ++ (needed parts (λ c. indicator (keeps l c)) ++ u))) (append_nil _ ∙ third))
+      ∙ ap (λ u. before ++ (needed parts (sum l.coefficients) ++ (needed parts (λ c. indicator (keeps l c)) ++ u))) (append-nil _ ∙ third))
 
   -- each function of an old node is one that the old limits need
   in_all : (u : List ℤ) → In u (all_needs parts t p l) → In u (needed_all parts (built (ls ++ (l ∷ [])) (λ c. pos 1)))

@@ -120,8 +120,8 @@ impl<'a> Job<'a> {
         weights: &[G::Weight],
         rows: &mut Rows<G>,
     ) -> Result<Option<Answer<G>>, Refusal>
-        ensures reply { told result ≡ asked kind (stands self.now) (map weighs weights.now) (length rows.old.rows.now) }
-        ensures answer { MatchResult result (λ a. Solved kind means (map weighs weights.now) (keeps_all (stands self.now).limits) a) (λ _. rows.new ≡ rows.old) }
+        ensures reply { told result ≡ asked G.kind (stands self.now) (map G.weighs weights.now) (length rows.old.rows.now) }
+        ensures answer { MatchResult result (λ a. Solved G.kind G.means (map G.weighs weights.now) (keeps_all (stands self.now).limits) a) (λ _. rows.new ≡ rows.old) }
         ensures named { rows.new.rows.ghost_name ≡ rows.old.rows.ghost_name }
         ensures kept { length rows.new.rows.now ≡ length rows.old.rows.now }
     {

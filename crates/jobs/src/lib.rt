@@ -1,4 +1,6 @@
 //! A job: its parts, its node table and its standing limits.
+#![tactic(auto)]
+
 ghost use Rattle.std.specs.Prelude.{◌≡◌, ◌≤◌, length};
 ghost use Rattle.tables.specs.Chains.{made, Fits};
 ghost use Rattle.jobs.specs.Books.{Books};

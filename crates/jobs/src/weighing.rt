@@ -6,7 +6,7 @@ use grades::Grade;
 
 /// Whether each weight means a grade in range.
 pub fn in_range<G: Grade>(weights: &[G::Weight]) -> bool
-    ensures { result ≡ all_in_range kind (map weighs weights.now) }
+    ensures { result ≡ all_in_range G.kind (map G.weighs weights.now) }
 {
     for weight in weights {
         if G::of_weight(weight).is_none() {

@@ -1,4 +1,6 @@
 //! Parts, choices, limits, and the refusals of a job's calls.
+#![tactic(auto)]
+
 ghost use Rattle.std.specs.Prelude.{◌≡◌};
 ghost use Rattle.limits.specs.Choices.{Words-are-choices};
 ghost use Rattle.limits.specs.Refusals.{number};

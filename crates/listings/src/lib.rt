@@ -1,4 +1,6 @@
 //! The listing of a sheet, as text in a lent output.
+#![tactic(auto)]
+
 ghost use Rattle.std.specs.Prelude.{◌≡◌, ℕ, ◌<◌, ◌≤◌, length};
 ghost use Rattle.limits.specs.Choices.{bits};
 ghost use Rattle.listings.specs.Listings.{best_text, nothing_text, fault_text, contents, fitted, Listed};

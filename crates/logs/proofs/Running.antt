@@ -1,5 +1,5 @@
 -- A log, one call after another.
-use Rattle.std.proofs.Common.{◌≡◌, ℕ, zero, suc, ◌+◌, ◌<◌, ◌≤◌, List, [], ◌∷◌, ◌++◌, length, get_or, take, drop, set, sym, refl, ap, ◌∙◌, subst, append_assoc, append_nil, add-one, arith}
+use Rattle.std.proofs.Common.{◌≡◌, ℕ, zero, suc, ◌+◌, ◌<◌, ◌≤◌, List, [], ◌∷◌, ◌++◌, length, get_or, take, drop, set, sym, refl, ap, ◌∙◌, subst, append_assoc, append-nil, add-one, arith}
 use Rattle.std.proofs.lemmas.List.{drop_more, drop_all}
 use Rattle.grades.specs.Laws.{Kind}
 use Rattle.jobs.specs.Calls.{Standing, standing}
@@ -39,4 +39,4 @@ module _ {V G W : Type 0} (K : Kind V) (means : G → V) (weighs : W → V) (pla
   pub all_right : (replies : List (Reply G)) (s : Standing) (i : ℕ) → i ≡ length calls → SoFar replies s i → RightLog K means weighs places rows (standing 0 []) calls (take (length calls) replies)
   all_right replies s i e before =
       let done : RightLog K means weighs places rows s (drop i calls) [] = subst (λ cs. RightLog K means weighs places rows s cs []) (sym (drop_all i calls (omega arith))) tt in
-      subst (RightLog K means weighs places rows (standing 0 []) calls) (append_nil (take i replies) ∙ ap (λ n. take n replies) e) (before [] done)
+      subst (RightLog K means weighs places rows (standing 0 []) calls) (append-nil (take i replies) ∙ ap (λ n. take n replies) e) (before [] done)

@@ -1,4 +1,6 @@
 //! Any list of calls on a new job, with the answer to each.
+#![tactic(auto)]
+
 ghost use Rattle.std.specs.Prelude.{◌≡◌, ◌<◌, min, map, length, IfOk, slice_index_or, slice_set};
 ghost use Rattle.limits.specs.Refusals.{told};
 ghost use Rattle.jobs.specs.Calls.{asked};
@@ -96,8 +98,8 @@ fn solved_by<G: Grade>(
     weights: &[G::Weight],
     row_places: &mut [Row<G>],
 ) -> Result<Option<Answer<G>>, Refusal>
-    ensures reply { told result ≡ asked kind (stands job.now) (map weighs weights.now) (length row_places.old) }
-    ensures answer { IfOk result (λ o. Finds kind means (map weighs weights.now) (stands job.now).limits o) }
+    ensures reply { told result ≡ asked G.kind (stands job.now) (map G.weighs weights.now) (length row_places.old) }
+    ensures answer { IfOk result (λ o. Finds G.kind G.means (map G.weighs weights.now) (stands job.now).limits o) }
 {
     let mut rows = Rows::new(row_places);
     job.solve(weights, &mut rows)
@@ -105,7 +107,7 @@ fn solved_by<G: Grade>(
 
 // Solves by the kind of the weights.
 fn solved<G: Grade>(job: &Job, weights: &Weights<G::Weight>, rows: &mut LogRows<G>) -> Reply<G>
-    ensures right { SolvedRight kind means weighs (lent rows.old) (stands job.now) weights.now result }
+    ensures right { SolvedRight G.kind G.means G.weighs (lent rows.old) (stands job.now) weights.now result }
     ensures lent { lent rows.new ≡ lent rows.old }
 {
     match weights {
@@ -135,7 +137,7 @@ fn perform<M: Memory, G: Grade>(
     rows: &mut LogRows<G>,
     memory: &mut M,
 ) -> Reply<G>
-    ensures right { Right kind means weighs (places job.old) (lent rows.old) (stands job.old) call.now result }
+    ensures right { Right G.kind G.means G.weighs (places job.old) (lent rows.old) (stands job.old) call.now result }
     ensures stands { stands job.new ≡ after (places job.old) (stands job.old) call.now }
     ensures places { places job.new ≡ places job.old }
     ensures lent { lent rows.new ≡ lent rows.old }
@@ -177,7 +179,7 @@ pub fn replay<M: Memory, G: Grade>(
     memory: &mut M,
     replies: &mut [Reply<G>],
 ) -> Result<(), ReplayRefusal>
-    ensures { Replayed kind means weighs (min (length node_places.old) 60000) (lent rows.old) calls.now replies.old replies.new result }
+    ensures { Replayed G.kind G.means G.weighs (min (length node_places.old) 60000) (lent rows.old) calls.now replies.old replies.new result }
 {
     if replies.len() < calls.len() {
         return Err(ReplayRefusal::RepliesTooShort);

@@ -1,4 +1,6 @@
 //! Tables that remember the results of questions, and may forget them.
+#![tactic(auto)]
+
 ghost use Rattle.std.specs.Prelude.{◌≡◌, ℕ, ◌%◌, ◌<◌, ◌≤◌, ◌⊎◌, length, set, replicate, Some, None, MatchOption, ◌≢◌, slice_index_or, slice_set};
 ghost use Rattle.diagrams.specs.declared.Edge.{Edge};
 ghost use Rattle.diagrams.specs.declared.Question.{Question};

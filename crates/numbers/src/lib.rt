@@ -1,4 +1,6 @@
 //! Whole numbers as bytes, in groups of seven bits, read from a list of bytes and put into a lent one.
+#![tactic(auto)]
+
 ghost use Rattle.std.specs.Prelude.{◌≡◌, ℕ, ◌+◌, ◌<◌, ◌≤◌, length, IfOk};
 ghost use Rattle.std.proofs.lemmas.List.Edits.{sets};
 ghost use Rattle.numbers.specs.Numbers.{fault_number, reading_of, read_number, read_signed, signed_of, unsigned_of, encode, encode_signed, Written};

@@ -1,4 +1,6 @@
 //! Questions that their constants or the range of a sum settle.
+#![tactic(auto)]
+
 ghost use Rattle.std.specs.Prelude.{◌≡◌, ℕ, ◌^◌, ◌<◌, ◌≤◌, true, false, length, pos, IfSome, MatchOption, ◌≢◌, int_le, slice_index_or, unsigned_abs};
 ghost use Rattle.diagrams.specs.declared.Child.TheVariants.{Terminal};
 ghost use Rattle.diagrams.specs.declared.Operation.TheVariants.{AtMost, AtLeast, Times};

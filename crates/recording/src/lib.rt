@@ -1,4 +1,6 @@
 //! A sheet's records, written one after another into a lent slice.
+#![tactic(auto)]
+
 ghost use Rattle.std.specs.Prelude.{◌≡◌};
 ghost use Rattle.records.specs.Sheets.{goal_says, end_says};
 ghost use Rattle.recording.specs.Writing.{refusal_number, saying};

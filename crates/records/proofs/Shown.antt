@@ -1,5 +1,5 @@
 -- terms, one after another, and the same terms in a part of the sheet
-use Rattle.std.proofs.Common.{◌≡◌, ℕ, zero, suc, ◌+◌, ◌-◌, ◌<◌, ◌≤◌, Bool, true, false, cond, ltb, leb, List, [], ◌∷◌, ◌++◌, length, take, drop, ℤ, Some, None, sym, refl, ap, ◌∙◌, append_assoc, append_nil, add_assoc, arith, length-drop, le-ltb, lt-ltb}
+use Rattle.std.proofs.Common.{◌≡◌, ℕ, zero, suc, ◌+◌, ◌-◌, ◌<◌, ◌≤◌, Bool, true, false, cond, ltb, leb, List, [], ◌∷◌, ◌++◌, length, take, drop, ℤ, Some, None, sym, refl, ap, ◌∙◌, append_assoc, append-nil, add_assoc, arith, length-drop, le-ltb, lt-ltb}
 use Rattle.std.proofs.lemmas.List.{drop-drop, take_rest}
 use Rattle.std.proofs.lemmas.Bool.Decides.{nat_tests}
 use Rattle.limits.specs.declared.Sense.{Sense}
@@ -38,8 +38,8 @@ terms_fault ts n m body at least p x l y e h f = rw (e, lt-ltb p (length body) h
 pub terms_end : (ts : List Term) (n : ℕ) (body : List ℕ) (at least p : ℕ) → length body ≤ p
     → p ≤ length body → after ts (read_terms n body at least p) ≡ found ts (length body)
 unfolding read_terms
-terms_end ts zero body at least p h k = ap (λ x. found x p) (append_nil ts) ∙ ap (found ts) (omega arith)
-terms_end ts (suc n) body at least p h k = rw (le-ltb p (length body) h) (ap (λ x. found x p) (append_nil ts) ∙ ap (found ts) (omega arith))
+terms_end ts zero body at least p h k = ap (λ x. found x p) (append-nil ts) ∙ ap (found ts) (omega arith)
+terms_end ts (suc n) body at least p h k = rw (le-ltb p (length body) h) (ap (λ x. found x p) (append-nil ts) ∙ ap (found ts) (omega arith))
 
 terms_past : (n : ℕ) (body : List ℕ) (at least p : ℕ) → length body ≤ p → read_terms n body at least p ≡ found [] p
 unfolding read_terms

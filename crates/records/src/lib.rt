@@ -1,4 +1,6 @@
 //! A sheet of records, read one after another; names and terms are shown as parts of the sheet.
+#![tactic(auto)]
+
 ghost use Rattle.std.specs.Prelude.{◌≡◌, ℕ, ◌≤◌, length};
 ghost use Rattle.records.specs.Codes.{goal_code};
 

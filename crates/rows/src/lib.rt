@@ -1,4 +1,6 @@
 //! The best grades of the later parts, one row a node.
+#![tactic(auto)]
+
 ghost use Rattle.std.specs.Prelude.{◌≡◌, ℕ, suc, ◌<◌, ◌≤◌, map, length, ◌+ℤ◌, if◌then◌else◌, Some, None, slice_set};
 ghost use Rattle.std.specs.List.{slice_get};
 ghost use Rattle.diagrams.specs.Apply.{Bit};
@@ -81,16 +83,16 @@ struct Top<G> {
 
 /// The grade that part i weighs.
 pub fn grade_at<G: Grade>(weights: &[G::Weight], i: usize) -> G
-    requires weighed { Weighed kind (map weighs weights.now) }
-    requires low { i < length (map weighs weights.now) }
-    ensures { slice_get (map weighs weights.now) i ≡ Some (means result) }
+    requires weighed { Weighed G.kind (map G.weighs weights.now) }
+    requires low { i < length (map G.weighs weights.now) }
+    ensures { slice_get (map G.weighs weights.now) i ≡ Some (G.means result) }
 {
     G::of_weight(&weights[i]).unwrap()
 }
 
 // The better of two, the first where they rank alike.
 fn better<G: Grade>(a: Option<G>, b: Option<G>) -> Option<G>
-    ensures { result ≡ better_of kind means a b }
+    ensures { result ≡ better_of G.kind G.means a b }
 {
     match (a, b) {
         (Some(x), Some(y)) => {
@@ -107,7 +109,7 @@ fn better<G: Grade>(a: Option<G>, b: Option<G>) -> Option<G>
 
 /// The weight joined with a best grade, missing where that is.
 pub fn put_on<G: Grade>(weight: &G, best: Option<G>) -> Option<G>
-    ensures { Put kind means (means weight.now) best result }
+    ensures { Put G.kind G.means (G.means weight.now) best result }
 {
     match best {
         Some(grade) => Some(weight.join(&grade)),
@@ -135,7 +137,7 @@ pub fn fitted_edge(one: bool, node: Node) -> BitEdge
 
 // The best grade at the terminal: the empty one, or none.
 fn terminal_grade<G: Grade>(one: bool) -> Option<G>
-    ensures { mapped means result ≡ (if one then Some kind.empty else None) }
+    ensures { mapped G.means result ≡ (if one then Some G.kind.empty else None) }
 {
     if one { Some(G::empty()) } else { None }
 }
@@ -147,9 +149,9 @@ fn top_of<G: Grade>(
     weights: &[G::Weight],
     edge: BitEdge,
 ) -> Top<G>
-    requires ready { Ready kind (map weighs weights.now) (made table.now) }
+    requires ready { Ready G.kind (map G.weighs weights.now) (made table.now) }
     requires under { Under (made table.now) 0 (length rows.now) edge.child }
-    ensures { Tops kind means (map weighs weights.now) (made table.now) rows.now edge.one edge.child result }
+    ensures { Tops G.kind G.means (map G.weighs weights.now) (made table.now) rows.now edge.one edge.child result }
 {
     match edge.child {
         Child::Terminal => Top {
@@ -168,10 +170,10 @@ fn top_of<G: Grade>(
 
 // What is best from one part up, from an earlier part up, where the diagram skips the parts between: each is weighed.
 fn lifted<G: Grade>(weights: &[G::Weight], best: Option<G>, from: usize, to: usize) -> Option<G>
-    requires weighed { Weighed kind (map weighs weights.now) }
+    requires weighed { Weighed G.kind (map G.weighs weights.now) }
     requires falls { to ≤ from }
-    requires low { from ≤ length (map weighs weights.now) }
-    ensures { Lifts kind means (map weighs weights.now) from to best result }
+    requires low { from ≤ length (map G.weighs weights.now) }
+    ensures { Lifts G.kind G.means (map G.weighs weights.now) from to best result }
 {
     let mut o = best;
     for j in (to..from).rev() {
@@ -190,10 +192,10 @@ pub fn best_of<G: Grade>(
     edge: BitEdge,
     i: usize,
 ) -> Option<G>
-    requires ready { Ready kind (map weighs weights.now) (made table.now) }
-    requires low { i ≤ length (map weighs weights.now) }
+    requires ready { Ready G.kind (map G.weighs weights.now) (made table.now) }
+    requires low { i ≤ length (map G.weighs weights.now) }
     requires under { Under (made table.now) i (length rows.now) edge.child }
-    ensures { Tells kind means (map weighs weights.now) (made table.now) rows.now i edge.one edge.child result }
+    ensures { Tells G.kind G.means (map G.weighs weights.now) (made table.now) rows.now i edge.one edge.child result }
 {
     let Top { part, best } = top_of(table, rows, weights, edge);
     lifted(weights, best, part, i)
@@ -207,11 +209,11 @@ fn node_best<G: Grade>(
     node: Node,
     one: bool,
 ) -> Option<G>
-    requires ready { Ready kind (map weighs weights.now) (made table.now) }
-    requires low { node.part < length (map weighs weights.now) }
+    requires ready { Ready G.kind (map G.weighs weights.now) (made table.now) }
+    requires low { node.part < length (map G.weighs weights.now) }
     requires left { Under (made table.now) (suc node.part) (length rows.now) node.left }
     requires right { Under (made table.now) (suc node.part) (length rows.now) node.right }
-    ensures { NodeBest kind means (map weighs weights.now) (made table.now) rows.now node one result }
+    ensures { NodeBest G.kind G.means (map G.weighs weights.now) (made table.now) rows.now node one result }
 {
     let i = node.part as usize;
     let out = best_of(
@@ -231,10 +233,10 @@ fn node_best<G: Grade>(
 
 // The row of the node at the place k.
 fn row_of<G: Grade>(table: &NodeTable, rows: &[Row<G>], weights: &[G::Weight], k: usize) -> Row<G>
-    requires ready { Ready kind (map weighs weights.now) (made table.now) }
+    requires ready { Ready G.kind (map G.weighs weights.now) (made table.now) }
     requires low { k < length (made table.now) }
     requires enough { k ≤ length rows.now }
-    ensures { RowBest kind means (map weighs weights.now) (made table.now) rows.now k result }
+    ensures { RowBest G.kind G.means (map G.weighs weights.now) (made table.now) rows.now k result }
 {
     let node = table.node(k);
     let zero = node_best(table, rows, weights, node, false);
@@ -244,10 +246,10 @@ fn row_of<G: Grade>(table: &NodeTable, rows: &[Row<G>], weights: &[G::Weight], k
 
 /// Fills one row for each node, in the order of their places.
 pub fn fill<G: Grade>(table: &NodeTable, weights: &[G::Weight], rows: &mut Rows<G>)
-    requires ready { Ready kind (map weighs weights.now) (made table.now) }
+    requires ready { Ready G.kind (map G.weighs weights.now) (made table.now) }
     requires fits { Fits table.now }
     requires enough { length (made table.now) ≤ length rows.old.rows.now }
-    ensures right { RightRows kind means (map weighs weights.now) (made table.now) rows.new.rows.now (length (made table.now)) }
+    ensures right { RightRows G.kind G.means (map G.weighs weights.now) (made table.now) rows.new.rows.now (length (made table.now)) }
     ensures named { rows.new.rows.ghost_name ≡ rows.old.rows.ghost_name }
     ensures kept { length rows.new.rows.now ≡ length rows.old.rows.now }
 {

@@ -1,4 +1,6 @@
 //! The set chooser: all that makers of order systems call.
+#![tactic(auto)]
+
 mod export;
 mod listing;
 mod replaying;

@@ -22,7 +22,7 @@ pub fn replay<M: Memory, G: Grade>(
     memory: &mut M,
     replies: &mut [Reply<G>],
 ) -> Result<(), ReplayRefusal>
-    ensures log { Replayed kind means weighs (min (length places.old) 60000) (lent rows.old) calls.now replies.old replies.new result }
+    ensures log { Replayed G.kind G.means G.weighs (min (length places.old) 60000) (lent rows.old) calls.now replies.old replies.new result }
     ensures sheets { ListingsRight }
 {
     logs::replay(places, calls, rows, memory, replies)

@@ -1,4 +1,6 @@
 //! Reads a sheet on standard input and prints its listing: `setlist [--places N] < SHEET`.
+#![tactic(auto)]
+
 use anyhow::anyhow;
 use set_chooser::{Mass, MassPrice, Place, Row, RowTables, Slots, list};
 use std::env;

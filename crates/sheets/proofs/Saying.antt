@@ -1,5 +1,5 @@
 -- What is read of a sheet is what it says.
-use Rattle.std.proofs.Common.{◌≡◌, ℕ, zero, suc, ◌+◌, ◌<◌, min, Bool, true, false, cond, leb, List, [], ◌∷◌, ◌++◌, length, drop, sym, refl, ap, ◌∙◌, subst, append_nil, arith}
+use Rattle.std.proofs.Common.{◌≡◌, ℕ, zero, suc, ◌+◌, ◌<◌, min, Bool, true, false, cond, leb, List, [], ◌∷◌, ◌++◌, length, drop, sym, refl, ap, ◌∙◌, subst, append-nil, arith}
 use Rattle.std.proofs.lemmas.List.{drop_all}
 use Rattle.limits.specs.declared.Sense.{Sense}
 use Rattle.limits.specs.declared.Sense.TheVariants.{AtMost, AtLeast}
@@ -83,7 +83,7 @@ says_one_thing sheet t u (rs, a) (qs, b) = same_reads sheet untold 0 rs qs t u a
 spelled_from : (sheet : List ℕ) (t : Told) (at : ℕ) (rs : List Saying) (u : Told) → Bytes sheet → Reads sheet t at rs u → drop at sheet ≡ spelled_all rs
 spelled_from sheet t at [] u bytes (next, e, f) =
     let l = end_is_last t.stage t.names sheet at next bytes e in
-    (record_sole t.stage t.names sheet at next end_says bytes e).0 ∙ (ap (λ z. spelled end_says ++ z) (drop_all next sheet (omega arith)) ∙ append_nil (spelled end_says))
+    (record_sole t.stage t.names sheet at next end_says bytes e).0 ∙ (ap (λ z. spelled end_says ++ z) (drop_all next sheet (omega arith)) ∙ append-nil (spelled end_says))
 spelled_from sheet t at (r ∷ rs) u bytes (next, some, e, later) =
     (record_sole t.stage t.names sheet at next r bytes e).0 ∙ ap (λ z. spelled r ++ z) (spelled_from sheet (after_record t r) next rs u bytes later)
 

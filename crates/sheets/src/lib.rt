@@ -1,4 +1,6 @@
 //! A whole sheet read into a job.
+#![tactic(auto)]
+
 ghost use Rattle.std.specs.Prelude.{◌≡◌, ℕ, ◌≤◌, length, get_or, pos, slice_index_or};
 
 use records::Goal;

@@ -1,4 +1,6 @@
 //! The rule's choice and its grade, read off a diagram that denotes 1 where all limits are kept, and 0 elsewhere.
+#![tactic(auto)]
+
 ghost use Rattle.std.specs.Prelude.{◌≡◌, ℕ, ◌+◌, ◌*◌, ◌^◌, ◌<◌, ◌≤◌, map, length, if◌then◌else◌};
 ghost use Rattle.limits.specs.Choices.{word};
 ghost use Rattle.grades.specs.Rule.{chosen, left_out};
@@ -55,7 +57,7 @@ fn turned(table: &NodeTable, edge: BitEdge, i: usize, fitted: bool) -> BitEdge
 
 // Whether a part is left out: the best grade without it exists, and the best with it is missing or ranks no earlier.
 fn stays_out<G: Grade>(without: &Option<G>, with: &Option<G>) -> bool
-    ensures { result ≡ left_out kind (mapped means without.now) (mapped means with.now) }
+    ensures { result ≡ left_out G.kind (mapped G.means without.now) (mapped G.means with.now) }
 {
     match (without, with) {
         (Some(a), Some(b)) => a.ranks_no_later(b),
@@ -72,10 +74,10 @@ fn settle<G: Grade>(
     edge: BitEdge,
     i: usize,
 ) -> Settled
-    requires filled { Filled kind means (map weighs weights.now) (made table.now) rows.now }
-    requires low { i < length (map weighs weights.now) }
-    requires stands { StandsAt (made table.now) (length (map weighs weights.now)) i edge.one edge.child }
-    ensures { Settles kind (map weighs weights.now) (made table.now) i edge.one edge.child result }
+    requires filled { Filled G.kind G.means (map G.weighs weights.now) (made table.now) rows.now }
+    requires low { i < length (map G.weighs weights.now) }
+    requires stands { StandsAt (made table.now) (length (map G.weighs weights.now)) i edge.one edge.child }
+    ensures { Settles G.kind (map G.weighs weights.now) (made table.now) i edge.one edge.child result }
 {
     let out = turned(table, edge, i, false);
     let fit = turned(table, edge, i, true);
@@ -121,9 +123,9 @@ fn word_of<G: Grade>(
     weights: &[G::Weight],
     start: BitEdge,
 ) -> u64
-    requires filled { Filled kind means (map weighs weights.now) (made table.now) rows.now }
-    requires stands { StandsAt (made table.now) (length (map weighs weights.now)) 0 start.one start.child }
-    ensures { result ≡ word (chosen kind (map weighs weights.now) (ones (made table.now) 0 start.one start.child)) }
+    requires filled { Filled G.kind G.means (map G.weighs weights.now) (made table.now) rows.now }
+    requires stands { StandsAt (made table.now) (length (map G.weighs weights.now)) 0 start.one start.child }
+    ensures { result ≡ word (chosen G.kind (map G.weighs weights.now) (ones (made table.now) 0 start.one start.child)) }
 {
     let mut edge = start;
     let mut choice = 0;
@@ -144,12 +146,12 @@ pub fn solve<G: Grade>(
     weights: &[G::Weight],
     rows: &mut Rows<G>,
 ) -> Option<Answer<G>>
-    requires ready { Ready kind (map weighs weights.now) (made table.now) }
+    requires ready { Ready G.kind (map G.weighs weights.now) (made table.now) }
     requires fits { Fits table.now }
     requires enough { length (made table.now) ≤ length rows.old.rows.now }
     requires under { Under (made table.now) 0 (length (made table.now)) root.child }
-    requires bits { BitsOf (made table.now) (length (map weighs weights.now)) 0 root.constant root.child }
-    ensures solved { Solved kind means (map weighs weights.now) (ones_of (made table.now) 0 root.constant root.child) result }
+    requires bits { BitsOf (made table.now) (length (map G.weighs weights.now)) 0 root.constant root.child }
+    ensures solved { Solved G.kind G.means (map G.weighs weights.now) (ones_of (made table.now) 0 root.constant root.child) result }
     ensures named { rows.new.rows.ghost_name ≡ rows.old.rows.ghost_name }
     ensures kept { length rows.new.rows.now ≡ length rows.old.rows.now }
 {

@@ -1,5 +1,5 @@
 -- what is spelled is read back
-use Rattle.std.proofs.Common.{◌≡◌, ℕ, zero, suc, ◌+◌, ◌-◌, ◌*◌, ◌/◌, ◌%◌, ◌^◌, ◌<◌, ◌≤◌, Bool, true, false, cond, not, ◌&&◌, eqb, ltb, leb, List, [], ◌∷◌, ◌++◌, length, take, drop, ℤ, pos, negsuc, nat_abs, sym, refl, ap, ◌∙◌, append_assoc, append_nil, arith, length-append, length-drop, take_at, ltb-true, le-ltb, lt-ltb, eq-eqb}
+use Rattle.std.proofs.Common.{◌≡◌, ℕ, zero, suc, ◌+◌, ◌-◌, ◌*◌, ◌/◌, ◌%◌, ◌^◌, ◌<◌, ◌≤◌, Bool, true, false, cond, not, ◌&&◌, eqb, ltb, leb, List, [], ◌∷◌, ◌++◌, length, take, drop, ℤ, pos, negsuc, nat_abs, sym, refl, ap, ◌∙◌, append_assoc, append-nil, arith, length-append, length-drop, take_at, ltb-true, le-ltb, lt-ltb, eq-eqb}
 use Rattle.std.proofs.lemmas.List.{drop-drop, drop_at, drop-take, take-append-drop, length-take-le}
 use Rattle.std.proofs.lemmas.Bool.{cond-true, cond-false, and_parts, and_from, le-leb, leb-true, not_from_false, ne_eqb}
 use lib.Seq.{sets, sets-eq}
@@ -51,7 +51,7 @@ passed_both (refused k) m e = let z : ◌≡◌ {A = ℕ} 0 1 = cc in absurd (om
 to_end : (xs : List ℕ) (p v : ℕ) → drop p xs ≡ encode v ++ [] → p + length (encode v) ≡ length xs
 to_end xs p v e =
     let some = length_some 4 v in
-    let l = sym (length-drop p xs) ∙ ap length (e ∙ append_nil (encode v)) in omega arith
+    let l = sym (length-drop p xs) ∙ ap length (e ∙ append-nil (encode v)) in omega arith
 
 -- a part
 
@@ -102,7 +102,7 @@ part_back names body at p name mass wait price j room new e =
     let e₁ = on body p (encode (length name)) _ e in
     let e₂ = on body p₁ name _ e₁ in
     let e₃ = on body p₂ (encode (unsigned_of mass)) _ e₂ in
-    let e₄ = on body p₃ (encode wait) _ e₃ ∙ sym (append_nil (encode price)) in
+    let e₄ = on body p₃ (encode wait) _ e₃ ∙ sym (append-nil (encode price)) in
     cond-true _ _ _ (lt-ltb (length names) 48 room)
     ∙ then_found (read_name names body at p) name p₂ _ (name_back names body at p name _ both.0 both.1 new e)
     ∙ then_found (read_mass body at p₂) mass p₃ _ (mass_back body at p₂ mass _ ranged e₂)
@@ -118,7 +118,7 @@ code_known MassPrice = (omega arith, refl)
 goal_back : (body : List ℕ) (at p : ℕ) (g : Goal) → drop p body ≡ encode (goal_code g) → read_goal body at p ≡ found (goal_says g) (length body)
 goal_back body at p g e =
     let (l, is) = code_known g in
-    let e₁ = e ∙ sym (append_nil (encode (goal_code g))) in
+    let e₁ = e ∙ sym (append-nil (encode (goal_code g))) in
     then_found (number_at body p) (goal_code g) _ _ (number_back body p (goal_code g) [] (omega arith) e₁)
     ∙ cond-true _ _ _ (le-leb (goal_code g) 2 l)
     ∙ ap (λ x. ended body at (goal_says x) (p + length (encode (goal_code g)))) is

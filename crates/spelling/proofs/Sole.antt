@@ -1,5 +1,5 @@
 -- what is read has one spelling
-use Rattle.std.proofs.Common.{◌≡◌, ℕ, zero, suc, ◌+◌, ◌-◌, ◌*◌, ◌/◌, ◌%◌, ◌<◌, ◌≤◌, Bool, true, false, cond, not, ◌&&◌, eqb, ltb, leb, List, [], ◌∷◌, ◌++◌, length, get_or, take, drop, ℤ, pos, negsuc, sym, refl, ap, ◌∙◌, append_assoc, append_nil, arith, length-append, length-drop, take-append-drop, take_at, ltb-false, ltb-true}
+use Rattle.std.proofs.Common.{◌≡◌, ℕ, zero, suc, ◌+◌, ◌-◌, ◌*◌, ◌/◌, ◌%◌, ◌<◌, ◌≤◌, Bool, true, false, cond, not, ◌&&◌, eqb, ltb, leb, List, [], ◌∷◌, ◌++◌, length, get_or, take, drop, ℤ, pos, negsuc, sym, refl, ap, ◌∙◌, append_assoc, append-nil, arith, length-append, length-drop, take-append-drop, take_at, ltb-false, ltb-true}
 use Rattle.std.proofs.lemmas.List.{drop-drop, drop-take, get_or-drop, length-take-le, drop_all}
 use Rattle.std.proofs.lemmas.Bool.{and_parts, leb-true, eqb-true, eqb-false}
 use Rattle.limits.specs.declared.Sense.{Sense}
@@ -206,7 +206,7 @@ widened : (sheet : List ℕ) (q size : ℕ) (s : List ℕ) (r : ℕ) → q + siz
 widened sheet q size s r h (a, b) e =
     let len = length-take-le (q + size) sheet h in
     let none : drop r (take (q + size) sheet) ≡ [] = drop_all r (take (q + size) sheet) (omega arith) in
-    let is : take size (drop q sheet) ≡ s = sym (drop-take q size sheet) ∙ a ∙ ap (λ x. s ++ x) none ∙ append_nil s in
+    let is : take size (drop q sheet) ≡ s = sym (drop-take q size sheet) ∙ a ∙ ap (λ x. s ++ x) none ∙ append-nil s in
     let there : q + size ≡ r = sym len ∙ sym e in (
       (sym (take-append-drop size (drop q sheet)) ∙ ap (λ x. x ++ drop size (drop q sheet)) is ∙ ap (λ x. s ++ x) (drop-drop size q sheet ∙ ap (λ i. drop i sheet) there), b),
       omega arith,

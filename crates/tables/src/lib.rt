@@ -1,4 +1,6 @@
 //! A table of diagram nodes over lent places, in which equal nodes are found by their hashes.
+#![tactic(auto)]
+
 ghost use Rattle.std.specs.Prelude.{◌≡◌, ℕ, ◌+◌, ◌-◌, ◌^◌, ◌<◌, ◌≤◌, true, List, [], ◌∷◌, ◌++◌, length, take, ℤ, Some, MatchOption, ◌≢◌, unsigned_abs};
 ghost use Rattle.std.specs.List.{slice_get};
 ghost use Rattle.diagrams.specs.Nodes.{From, Sound};

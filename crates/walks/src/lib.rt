@@ -1,4 +1,6 @@
 //! The walk over the diagrams that makes one limit more part of a product.
+#![tactic(auto)]
+
 ghost use Rattle.std.specs.Prelude.{◌≡◌, ℕ, ◌^◌, ◌<◌, ◌≤◌, min, ◌⊎◌, List, [], ◌∷◌, length, ℤ, pos, IfSome, MatchOption, slice_index_or, unsigned_abs};
 ghost use Rattle.limits.specs.Limits.{sum};
 ghost use Rattle.diagrams.specs.Nodes.{From};
@@ -122,7 +124,7 @@ fn open_question(table: &NodeTable, stack: &mut Stack, q: Question) -> Question
 // The answer where the question itself or the ranges settle it, or the one that is remembered.
 fn look_up<M: Memory>(table: &NodeTable, ranges: &[Range], q: Question, memory: &M) -> Option<Edge>
     requires { CanLook table.now ranges.now q }
-    ensures { MatchOption result (Open q) (λ e. Answers q e ⊎ (Squares q e ⊎ (holds memory.now q e ⊎ ByRange table.now ranges.now q e))) }
+    ensures { MatchOption result (Open q) (λ e. Answers q e ⊎ (Squares q e ⊎ (M.holds memory.now q e ⊎ ByRange table.now ranges.now q e))) }
 {
     if let Some(e) = shortcut(q) {
         return Some(e);
@@ -147,9 +149,9 @@ fn walk<M: Memory>(
     requires few { parts ≤ 48 }
     requires can { CanAsk parts table.old 0 root }
     requires ranged { Ranged parts (made table.old) ranges.now root }
-    requires right { AllRight holds memory.old parts (made table.old) }
+    requires right { AllRight M.holds memory.old parts (made table.old) }
     ensures done { (ts : List (List ℤ)) → Table parts ts table.old → Asked parts (made table.old) ts 0 root → Walked parts ts table.old table.new root result }
-    ensures right { AllRight holds memory.new parts (made table.new) }
+    ensures right { AllRight M.holds memory.new parts (made table.new) }
 {
     let mut stack = Stack::empty(root);
     let mut q = root;

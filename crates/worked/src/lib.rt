@@ -1,4 +1,6 @@
 //! The worked examples of the documents, shown to hold of the definitions.
+#![tactic(auto)]
+
 ghost use Rattle.worked.specs.Worked.{Worked};
 
 /// Every row of the table of worked examples holds of the definitions that the contracts cite.

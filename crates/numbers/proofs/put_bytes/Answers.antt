@@ -5,5 +5,5 @@ use Rattle.numbers.proofs.put_bytes.Goals as goal
 pub returns : goal.returns
 returns c = record {
   end = search rules;
-  out = mid_put c.args.at _ c.args.out.now _ c.args.bytes.now c.copy-from-slice.ensures.after (omega arith) (omega arith);
+  out = mid_put c.args.at _ c.args.out.now _ c.args.bytes.now c.copy_from_slice.ensures.after (omega arith) (omega arith);
 }

@@ -4,8 +4,8 @@ use Rattle.numbers.specs.Numbers.{read, from_place}
 use Rattle.numbers.proofs.Steps.{big_at, zero_at, end_at, on_next, none_at}
 use Rattle.numbers.proofs.read_number.Goals as goal
 
-pub returns-then-b-ge-FIFTH-END : goal.returns-then-b-ge-FIFTH-END
-returns-then-b-ge-FIFTH-END c = record {
+pub returns-then-b-ge-FIFTH_END : goal.returns-then-b-ge-FIFTH_END
+returns-then-b-ge-FIFTH_END c = record {
   is = sym (ap (from_place c.args.at) (c.loop-next.invariant.4
       ∙ big_at c.loop-next.weight c.loop-next.value (c.loop-next.next - c.args.at) c.loop-next.left
       (eqb c.loop-next.next c.args.at) c.args.bytes.now c.loop-next.next (omega arith) (omega arith) (omega arith)));

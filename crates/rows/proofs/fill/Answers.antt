@@ -5,8 +5,8 @@ use Rattle.rows.specs.Bests.{RightRows}
 use Rattle.rows.proofs.Steps.{fill_step}
 use Rattle.rows.proofs.fill.Goals as goal
 
-pub row-of-row-requires : goal.row-of-row-requires
-row-of-row-requires g c = record {
+pub row_of-row-requires : goal.row_of-row-requires
+row_of-row-requires g c = record {
   ready = c.requires.ready;
   low = omega (arith, c.used-k-end.ensures.nodes c.requires.fits, c.loop-k-test.true);
   enough = omega (arith, ap length c.shown.ensures, c.loop-k.invariant.1, c.used-k-end.ensures.nodes c.requires.fits, c.requires.enough, c.loop-k-test.true);
@@ -17,9 +17,9 @@ set-requires g c = omega (arith, c.loop-k.invariant.1, c.used-k-end.ensures.node
 
 pub loop-k-preserved : goal.loop-k-preserved
 loop-k-preserved g c = (
-  fill_step g.met.G.Grade.laws g.G.Grade.means (map g.G.Grade.weighs c.args.weights.now) (made c.args.table.now) c.loop-k.rows.rows.now c.shown.result.now _ c.loop-k.k c.row-of-row.result
-      c.shown.ensures (omega (arith, c.loop-k.invariant.1, c.used-k-end.ensures.nodes c.requires.fits, c.requires.enough, c.loop-k-test.true)) c.set.ensures.value c.row-of-row.ensures c.loop-k.invariant.0,
-  ap length c.set.ensures.value ∙ (length-set c.loop-k.rows.rows.now c.loop-k.k c.row-of-row.result ∙ c.loop-k.invariant.1),
+  fill_step g.met.G.Grade.laws g.G.Grade.means (map g.G.Grade.weighs c.args.weights.now) (made c.args.table.now) c.loop-k.rows.rows.now c.shown.result.now _ c.loop-k.k c.row_of-row.result
+      c.shown.ensures (omega (arith, c.loop-k.invariant.1, c.used-k-end.ensures.nodes c.requires.fits, c.requires.enough, c.loop-k-test.true)) c.set.ensures.value c.row_of-row.ensures c.loop-k.invariant.0,
+  ap length c.set.ensures.value ∙ (length-set c.loop-k.rows.rows.now c.loop-k.k c.row_of-row.result ∙ c.loop-k.invariant.1),
   c.set.ensures.named ∙ c.loop-k.invariant.2,
 )
 

@@ -4,16 +4,16 @@ use Rattle.rows.proofs.Values.{under_up}
 use Rattle.rows.proofs.Steps.{row_is}
 use Rattle.rows.proofs.row_of.Goals as goal
 
-pub node-best-zero-requires : goal.node-best-zero-requires
-node-best-zero-requires g c = record {
+pub node_best-zero-requires : goal.node_best-zero-requires
+node_best-zero-requires g c = record {
   ready = c.requires.ready;
   low = c.requires.ready.ordered.below c.args.k c.node-node.result c.node-node.ensures;
   left = under_up (made c.args.table.now) (suc c.node-node.result.part) c.args.k _ c.node-node.result.left c.requires.enough (c.requires.ready.ordered.left c.args.k c.node-node.result c.node-node.ensures);
   right = under_up (made c.args.table.now) (suc c.node-node.result.part) c.args.k _ c.node-node.result.right c.requires.enough (c.requires.ready.ordered.right c.args.k c.node-node.result c.node-node.ensures);
 }
 
-pub node-best-one-requires : goal.node-best-one-requires
-node-best-one-requires g c = record {
+pub node_best-one-requires : goal.node_best-one-requires
+node_best-one-requires g c = record {
   ready = c.requires.ready;
   low = c.requires.ready.ordered.below c.args.k c.node-node.result c.node-node.ensures;
   left = under_up (made c.args.table.now) (suc c.node-node.result.part) c.args.k _ c.node-node.result.left c.requires.enough (c.requires.ready.ordered.left c.args.k c.node-node.result c.node-node.ensures);
@@ -22,4 +22,4 @@ node-best-one-requires g c = record {
 
 pub returns : goal.returns
 returns g c =
-    row_is g.met.G.Grade.laws g.G.Grade.means (map g.G.Grade.weighs c.args.weights.now) (made c.args.table.now) c.args.rows.now c.args.k c.node-node.result _ c.node-node.ensures c.node-best-zero.ensures c.node-best-one.ensures
+    row_is g.met.G.Grade.laws g.G.Grade.means (map g.G.Grade.weighs c.args.weights.now) (made c.args.table.now) c.args.rows.now c.args.k c.node-node.result _ c.node-node.ensures c.node_best-zero.ensures c.node_best-one.ensures

@@ -10,8 +10,8 @@ node-requires g c = (inside_at (made c.args.table.now) 0 _ c.in-Place.k c.args.e
 
 pub returns-in-Terminal : goal.returns-in-Terminal
 returns-in-Terminal g c =
-    tops_terminal g.met.G.Grade.laws g.G.Grade.means (map g.G.Grade.weighs c.args.weights.now) (made c.args.table.now) c.args.rows.now c.args.edge.one c.args.edge.child _ c.terminal-grade.result
-    (sym (length-map c.args.weights.now g.G.Grade.weighs)) c.in-Terminal.is c.terminal-grade.ensures
+    tops_terminal g.met.G.Grade.laws g.G.Grade.means (map g.G.Grade.weighs c.args.weights.now) (made c.args.table.now) c.args.rows.now c.args.edge.one c.args.edge.child _ c.terminal_grade.result
+    (sym (length-map c.args.weights.now g.G.Grade.weighs)) c.in-Terminal.is c.terminal_grade.ensures
 
 pub returns-in-Place : goal.returns-in-Place
 returns-in-Place g c =
@@ -21,8 +21,8 @@ returns-in-Place g c =
 pub bounds-rows-k : goal.bounds-rows-k
 bounds-rows-k g c = (inside_at (made c.args.table.now) 0 _ c.in-Place.k c.args.edge.child c.in-Place.is c.requires.under).1
 
-pub offset-bounds-rows-k : goal.offset-bounds-rows-k
-offset-bounds-rows-k g c = let h = (inside_at (made c.args.table.now) 0 _ c.in-Place.k c.args.edge.child c.in-Place.is c.requires.under).1 in omega arith
+pub offset_bounds-rows-k : goal.offset_bounds-rows-k
+offset_bounds-rows-k g c = let h = (inside_at (made c.args.table.now) 0 _ c.in-Place.k c.args.edge.child c.in-Place.is c.requires.under).1 in omega arith
 
-pub overflow-cast-result : goal.overflow-cast-result
-overflow-cast-result g c = omega arith
+pub overflow_cast-result : goal.overflow_cast-result
+overflow_cast-result g c = omega arith

@@ -17,7 +17,7 @@ returns-then-node-i c =
 pub returns-then-fitted : goal.returns-then-fitted
 returns-then-fitted c =
     turns_fit (made c.args.table.now) c.args.i c.args.edge.one c.args.edge.child c.args.fitted c.in-Place.k c.node-node.result c.in-Place.is c.node-node.ensures c.if-node-i.false
-    c.fitted-edge.result.one c.fitted-edge.result.child c.if-fitted.true c.fitted-edge.ensures.child c.fitted-edge.ensures.constant
+    c.fitted_edge.result.one c.fitted_edge.result.child c.if-fitted.true c.fitted_edge.ensures.child c.fitted_edge.ensures.constant
 
 pub returns-else-fitted : goal.returns-else-fitted
 returns-else-fitted c =

@@ -10,22 +10,22 @@ settle-settled-requires g c = record {
   stands = c.loop-i.invariant.2;
 }
 
-pub with-bit-choice-requires : goal.with-bit-choice-requires
-with-bit-choice-requires g c =
+pub with_bit-choice-requires : goal.with_bit-choice-requires
+with_bit-choice-requires g c =
     let h = bit_small c.loop-i.bit c.loop-i.i c.loop-i.invariant.0 (omega (arith, length-map c.args.weights.now g.G.Grade.weighs, c.loop-i-test.true, c.requires.filled.ready.weighed.few)) in
     omega (arith, c.loop-i.invariant.1)
 
-pub overflow-mul-bit : goal.overflow-mul-bit
-overflow-mul-bit g c =
+pub overflow_mul-bit : goal.overflow_mul-bit
+overflow_mul-bit g c =
     let h = bit_small c.loop-i.bit c.loop-i.i c.loop-i.invariant.0 (omega (arith, length-map c.args.weights.now g.G.Grade.weighs, c.loop-i-test.true, c.requires.filled.ready.weighed.few)) in
     omega arith
 
 pub loop-i-preserved : goal.loop-i-preserved
 loop-i-preserved g c = (
   bit_next c.loop-i.bit c.loop-i.i c.loop-i.invariant.0,
-  word_small c.loop-i.choice c.with-bit-choice.result c.loop-i.bit c.settle-settled.result.fitted c.loop-i.invariant.1 c.with-bit-choice.ensures,
+  word_small c.loop-i.choice c.with_bit-choice.result c.loop-i.bit c.settle-settled.result.fitted c.loop-i.invariant.1 c.with_bit-choice.ensures,
   c.settle-settled.ensures.stands,
-  word_step _ c.loop-i.choice c.with-bit-choice.result c.loop-i.bit c.settle-settled.result.fitted _ _ c.loop-i.invariant.3 c.settle-settled.ensures.chosen_is c.with-bit-choice.ensures,
+  word_step _ c.loop-i.choice c.with_bit-choice.result c.loop-i.bit c.settle-settled.result.fitted _ _ c.loop-i.invariant.3 c.settle-settled.ensures.chosen_is c.with_bit-choice.ensures,
 )
 
 pub returns : goal.returns

@@ -26,16 +26,16 @@ make-requires c =
     let s = c.loop-i.invariant c.requires.ts c.requires.table c.requires.allows in
     (c.args.parts, c.requires.ts, table_of s.grew, summing_makes s c.loop-i-test.true c.requires.few c.requires.small c.requires.allows c.plus-fit.result c.plus-fit.ensures)
 
-pub returns-in-err-e : goal.returns-in-err-e
-returns-in-err-e c = λ ts table allows.
+pub returns-in_err-e : goal.returns-in_err-e
+returns-in_err-e c = λ ts table allows.
     let s = c.loop-i.invariant ts table allows in
-    subst (Summed c.args.parts ts c.args.table.now c.make.new.self c.args.coefficients.now) (sym c.from-residual.ensures)
-    (summing_full s c.make.new.self c.plus-fit.result (c.in-err-e.ensures c.args.parts ts (table_of s.grew) (summing_makes s c.loop-i-test.true c.requires.few c.requires.small allows c.plus-fit.result c.plus-fit.ensures)))
+    subst (Summed c.args.parts ts c.args.table.now c.make.new.self c.args.coefficients.now) (sym c.from_residual.ensures)
+    (summing_full s c.make.new.self c.plus-fit.result (c.in_err-e.ensures c.args.parts ts (table_of s.grew) (summing_makes s c.loop-i-test.true c.requires.few c.requires.small allows c.plus-fit.result c.plus-fit.ensures)))
 
 pub loop-i-preserved : goal.loop-i-preserved
 loop-i-preserved c = λ ts table allows.
     let s = c.loop-i.invariant ts table allows in
-    summing_next s c.loop-i-test.true c.requires.few c.make.new.self c.plus-fit.result c.in-ok-e.e c.plus-fit.ensures (c.in-ok-e.ensures c.args.parts ts (table_of s.grew) (summing_makes s c.loop-i-test.true c.requires.few c.requires.small allows c.plus-fit.result c.plus-fit.ensures))
+    summing_next s c.loop-i-test.true c.requires.few c.make.new.self c.plus-fit.result c.in_ok-e.e c.plus-fit.ensures (c.in_ok-e.ensures c.args.parts ts (table_of s.grew) (summing_makes s c.loop-i-test.true c.requires.few c.requires.small allows c.plus-fit.result c.plus-fit.ensures))
 
 pub returns : goal.returns
 returns c = λ ts table allows. summing_done (c.loop-i.invariant ts table allows) c.loop-i-test.false

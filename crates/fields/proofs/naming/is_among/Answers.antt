@@ -1,18 +1,16 @@
 use Rattle.std.proofs.Common.{◌≡◌, sym, refl, ap, ◌∙◌, arith}
-use Rattle.std.proofs.lemmas.Slice.Eq.{slice_eq-Decides}
-use Rattle.fields.proofs.Names.{among_here, among_more, among_none, same_true, same_false}
+use Rattle.fields.proofs.Names.{among_here, among_more, among_none}
 use Rattle.fields.proofs.naming.is_among.Goals as goal
-use Rattle.std.proofs.lemmas.Bool.Decides.{Decides-eqb}
 
 pub returns-then-eq : goal.returns-then-eq
 returns-then-eq c =
     sym (c.loop-n.invariant ∙ among_here c.args.names.now c.args.name.now _ c.loop-n.n-index c.loop-n-test.true
-    (same_true _ _ _ (slice_eq-Decides Decides-eqb _ _ _ c.eq.ensures) c.if-eq.true))
+    (sym c.eq.ensures ∙ c.if-eq.true))
 
 pub loop-n-preserved : goal.loop-n-preserved
 loop-n-preserved c =
     c.loop-n.invariant ∙ among_more c.args.names.now c.args.name.now _ c.loop-n.n-index c.loop-n-test.true
-    (same_false _ _ _ (slice_eq-Decides Decides-eqb _ _ _ c.eq.ensures) c.if-eq.false)
+    (sym c.eq.ensures ∙ c.if-eq.false)
 
 pub returns : goal.returns
 returns c = sym (c.loop-n.invariant ∙ among_none c.args.names.now c.args.name.now c.loop-n.n-index (omega arith))

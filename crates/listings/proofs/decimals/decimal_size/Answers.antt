@@ -5,8 +5,8 @@ use Rattle.listings.proofs.decimals.decimal_size.Goals as goal
 use Rattle.std.proofs.lemmas.Fmt.{decimal_nonempty, length-decimal-le}
 use Rattle.listings.proofs.Texts.{one_digit, digit_more}
 
-pub overflow-add-size : goal.overflow-add-size
-overflow-add-size c =
+pub overflow_add-size : goal.overflow_add-size
+overflow_add-size c =
     let few = length-decimal-le 20 c.args.n (omega arith) (omega arith) (omega arith) in omega arith
 
 pub loop-rest-preserved : goal.loop-rest-preserved

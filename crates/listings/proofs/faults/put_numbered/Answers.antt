@@ -8,6 +8,6 @@ use Rattle.numbers.proofs.Chains.{chain}
 pub returns : goal.returns
 returns c = (
   omega arith,
-  chain c.args.out.now c.put-bytes-next.new.out c.put-decimal.new.out c.args.at c.put-bytes-next.result c.args.word.now (decimal c.args.n)
-      c.put-bytes-next.ensures.out c.put-bytes-next.ensures.end c.put-decimal.ensures.1,
+  chain c.args.out.now c.put_bytes-next.new.out c.put_decimal.new.out c.args.at c.put_bytes-next.result c.args.word.now (decimal c.args.n)
+      c.put_bytes-next.ensures.out c.put_bytes-next.ensures.end c.put_decimal.ensures.1,
 )

@@ -11,16 +11,16 @@ returns c =
     let l = fault_length c.args.number c.args.layer c.args.record c.args.place in
     let text = fault_text c.args.number c.args.layer c.args.record c.args.place in (
       omega arith,
-      from_start c.args.out.now c.put-bytes.new.out text (omega arith)
-          (chain_5 c.args.out.now c.put-numbered-next.new.out c.put-numbered-next-2.new.out c.put-numbered-next-3.new.out c.put-numbered-next-4.new.out c.put-bytes.new.out
-          0 c.put-numbered-next.result c.put-numbered-next-2.result c.put-numbered-next-3.result c.put-numbered-next-4.result
+      from_start c.args.out.now c.put_bytes.new.out text (omega arith)
+          (chain_5 c.args.out.now c.put_numbered-next.new.out c.put_numbered-next-2.new.out c.put_numbered-next-3.new.out c.put_numbered-next-4.new.out c.put_bytes.new.out
+          0 c.put_numbered-next.result c.put_numbered-next-2.result c.put_numbered-next-3.result c.put_numbered-next-4.result
           (codes "fault " ++ decimal c.args.number) (codes " layer " ++ decimal c.args.layer) (codes " record " ++ decimal c.args.record)
           (codes " place " ++ decimal c.args.place) (10 ∷ [])
-          c.put-numbered-next.ensures.1 (omega (arith, c.put-numbered-next.ensures.0))
-          c.put-numbered-next-2.ensures.1 (omega (arith, c.put-numbered-next-2.ensures.0, length-append (codes " layer ") (decimal c.args.layer)))
-          c.put-numbered-next-3.ensures.1 (omega (arith, c.put-numbered-next-3.ensures.0, length-append (codes " record ") (decimal c.args.record)))
-          c.put-numbered-next-4.ensures.1 (omega (arith, c.put-numbered-next-4.ensures.0, length-append (codes " place ") (decimal c.args.place)))
-          c.put-bytes.ensures.out
+          c.put_numbered-next.ensures.1 (omega (arith, c.put_numbered-next.ensures.0))
+          c.put_numbered-next-2.ensures.1 (omega (arith, c.put_numbered-next-2.ensures.0, length-append (codes " layer ") (decimal c.args.layer)))
+          c.put_numbered-next-3.ensures.1 (omega (arith, c.put_numbered-next-3.ensures.0, length-append (codes " record ") (decimal c.args.record)))
+          c.put_numbered-next-4.ensures.1 (omega (arith, c.put_numbered-next-4.ensures.0, length-append (codes " place ") (decimal c.args.place)))
+          c.put_bytes.ensures.out
           ∙ ap (sets c.args.out.now 0) (regrouped (codes "fault ") (decimal c.args.number) (codes " layer ") (decimal c.args.layer) (codes " record ") (decimal c.args.record)
           (codes " place ") (decimal c.args.place) (10 ∷ []))),
     )

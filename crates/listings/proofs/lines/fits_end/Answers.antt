@@ -1,19 +1,19 @@
 use Rattle.std.proofs.Common.{◌≡◌, ℕ, ◌+◌, ◌/◌, ◌%◌, ◌<◌, length, get_or, drop, sym, refl, ap, ◌∙◌, arith, rules}
 use Rattle.listings.proofs.lines.fits_end.Goals as goal
-use Rattle.listings.proofs.lines.fits_end.Goals.{then-word-eq1+in-ok-end, else-word-eq1}
+use Rattle.listings.proofs.lines.fits_end.Goals.{then-word-eq1+in_ok-end, else-word-eq1}
 use Rattle.listings.proofs.Texts.{chosen, chosen_length, chosen_out, chosen_none}
 
-pub returns-in-err-end : goal.returns-in-err-end
-returns-in-err-end c =
-    let h = c.in-err-end.ensures in
+pub returns-in_err-end : goal.returns-in_err-end
+returns-in_err-end c =
+    let h = c.in_err-end.ensures in
     let l = chosen_length c.args.names.now c.loop-name.name-index c.loop-name.word (omega arith) (omega arith) in
     let z : c.args.room < c.args.at + length (chosen c.args.names.now c.args.choice.0) = omega arith in search rules
 
 pub loop-name-preserved : goal.loop-name-preserved
 loop-name-preserved c =
     elim c.if-word-eq1.branch [
-      | then-word-eq1+in-ok-end w ↦
-          let h = w.in-ok-end.ensures in
+      | then-word-eq1+in_ok-end w ↦
+          let h = w.in_ok-end.ensures in
           let e = w.end-is in
           let l = chosen_length c.args.names.now c.loop-name.name-index c.loop-name.word (omega arith) (omega arith) in
           (omega arith, omega arith)

@@ -9,7 +9,7 @@ pub returns-in-Mass : goal.returns-in-Mass
 returns-in-Mass c =
     let e = ap (λ g. length (goal_line g)) c.in-Mass.is in
     let l = mass_length c.in-Mass.m in
-    let u : (c.signed-size.result ≡ length (signed_decimal c.in-Mass.m)) × (c.signed-size.result ≤ 21) = search rules in
+    let u : (c.signed_size.result ≡ length (signed_decimal c.in-Mass.m)) × (c.signed_size.result ≤ 21) = search rules in
     (omega arith, omega arith)
 
 pub returns-in-Wait : goal.returns-in-Wait
@@ -24,5 +24,5 @@ returns-in-MassPrice c =
     let e = ap (λ g. length (goal_line g)) c.in-MassPrice.is in
     let l = mass_price_length c.in-MassPrice.mass c.in-MassPrice.price in
     let f = ap (λ n. length (decimal n)) c.from-in-MassPrice.ensures in
-    let u : (c.signed-size-in-MassPrice.result ≡ length (signed_decimal c.in-MassPrice.mass)) × (c.signed-size-in-MassPrice.result ≤ 21) = search rules in
+    let u : (c.signed_size-in-MassPrice.result ≡ length (signed_decimal c.in-MassPrice.mass)) × (c.signed_size-in-MassPrice.result ≤ 21) = search rules in
     (omega arith, omega arith)

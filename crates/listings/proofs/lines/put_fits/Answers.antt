@@ -5,8 +5,8 @@ use Rattle.listings.proofs.lines.put_fits.Goals as goal
 use Rattle.listings.proofs.lines.put_fits.Goals.{then-word-eq1, else-word-eq1}
 use Rattle.listings.proofs.Texts.{unread, fit_length, chosen, chosen_length, chosen_in, chosen_out, chosen_none, puts_on}
 
-pub put-fit-next-requires : goal.put-fit-next-requires
-put-fit-next-requires c =
+pub put_fit-next-requires : goal.put_fit-next-requires
+put_fit-next-requires c =
     let l = chosen_length c.args.names.now c.loop-name.name-index c.loop-name.word (omega arith) (omega arith) in
     let f = fit_length (get_or c.args.names.now c.loop-name.name-index unread).now in omega arith
 
@@ -21,7 +21,7 @@ loop-name-preserved c =
             omega arith,
             puts_on c.loop-name.out c.if-word-eq1.out c.loop-name.next c.if-word-eq1.next _
                 (fit_line (get_or c.args.names.now c.loop-name.name-index unread).now) (chosen (drop (c.loop-name.name-index + 1) c.args.names.now) (c.loop-name.word / 2))
-                (chosen_in c.args.names.now c.loop-name.name-index c.loop-name.word (omega arith) (omega arith)) (o ∙ w.put-fit-next.ensures.1) (e ∙ w.put-fit-next.ensures.0)
+                (chosen_in c.args.names.now c.loop-name.name-index c.loop-name.word (omega arith) (omega arith)) (o ∙ w.put_fit-next.ensures.1) (e ∙ w.put_fit-next.ensures.0)
                 ∙ c.loop-name.invariant.1,
           )
       | else-word-eq1 w ↦

@@ -6,33 +6,33 @@ use Rattle.listings.proofs.lines.put_mass_price.Goals as goal
 use Rattle.numbers.proofs.Chains.{chain_5}
 use Rattle.listings.proofs.Texts.{mass_price_length}
 
-pub put-signed-next-requires : goal.put-signed-next-requires
-put-signed-next-requires c = let l = mass_price_length c.args.m c.args.p in search rules
+pub put_signed-next-requires : goal.put_signed-next-requires
+put_signed-next-requires c = let l = mass_price_length c.args.m c.args.p in search rules
 
-pub put-bytes-next-requires-2 : goal.put-bytes-next-requires-2
-put-bytes-next-requires-2 c =
+pub put_bytes-next-requires-2 : goal.put_bytes-next-requires-2
+put_bytes-next-requires-2 c =
     let l = mass_price_length c.args.m c.args.p in
-    let u : c.put-signed-next.result ≡ c.put-bytes-next.result + length (signed_decimal c.args.m) = search rules in omega arith
+    let u : c.put_signed-next.result ≡ c.put_bytes-next.result + length (signed_decimal c.args.m) = search rules in omega arith
 
-pub put-decimal-next-requires : goal.put-decimal-next-requires
-put-decimal-next-requires c =
+pub put_decimal-next-requires : goal.put_decimal-next-requires
+put_decimal-next-requires c =
     let l = mass_price_length c.args.m c.args.p in
-    let u : c.put-signed-next.result ≡ c.put-bytes-next.result + length (signed_decimal c.args.m) = search rules in omega arith
+    let u : c.put_signed-next.result ≡ c.put_bytes-next.result + length (signed_decimal c.args.m) = search rules in omega arith
 
-pub put-bytes-requires : goal.put-bytes-requires
-put-bytes-requires c =
+pub put_bytes-requires : goal.put_bytes-requires
+put_bytes-requires c =
     let l = mass_price_length c.args.m c.args.p in
-    let u : c.put-signed-next.result ≡ c.put-bytes-next.result + length (signed_decimal c.args.m) = search rules in omega arith
+    let u : c.put_signed-next.result ≡ c.put_bytes-next.result + length (signed_decimal c.args.m) = search rules in omega arith
 
 pub returns : goal.returns
 returns c =
     let l = mass_price_length c.args.m c.args.p in
-    let u : c.put-signed-next.result ≡ c.put-bytes-next.result + length (signed_decimal c.args.m) = search rules in
-    let v : c.put-signed-next.new.out ≡ sets c.put-bytes-next.new.out c.put-bytes-next.result (signed_decimal c.args.m) = search rules in (
+    let u : c.put_signed-next.result ≡ c.put_bytes-next.result + length (signed_decimal c.args.m) = search rules in
+    let v : c.put_signed-next.new.out ≡ sets c.put_bytes-next.new.out c.put_bytes-next.result (signed_decimal c.args.m) = search rules in (
       omega arith,
-      chain_5 c.args.out.now c.put-bytes-next.new.out c.put-signed-next.new.out c.put-bytes-next-2.new.out c.put-decimal-next.new.out c.put-bytes.new.out
-          c.args.at c.put-bytes-next.result c.put-signed-next.result c.put-bytes-next-2.result c.put-decimal-next.result
+      chain_5 c.args.out.now c.put_bytes-next.new.out c.put_signed-next.new.out c.put_bytes-next-2.new.out c.put_decimal-next.new.out c.put_bytes.new.out
+          c.args.at c.put_bytes-next.result c.put_signed-next.result c.put_bytes-next-2.result c.put_decimal-next.result
           (codes "goal mass_price ") (signed_decimal c.args.m) (32 ∷ []) (decimal c.args.p) (10 ∷ [])
-          c.put-bytes-next.ensures.out c.put-bytes-next.ensures.end v u c.put-bytes-next-2.ensures.out c.put-bytes-next-2.ensures.end
-          c.put-decimal-next.ensures.1 c.put-decimal-next.ensures.0 c.put-bytes.ensures.out,
+          c.put_bytes-next.ensures.out c.put_bytes-next.ensures.end v u c.put_bytes-next-2.ensures.out c.put_bytes-next-2.ensures.end
+          c.put_decimal-next.ensures.1 c.put_decimal-next.ensures.0 c.put_bytes.ensures.out,
     )

@@ -2,14 +2,14 @@ use Rattle.std.proofs.Common.{◌≡◌, ℕ, ◌+◌, ◌-◌, ◌<◌, ◌≤�
 use Rattle.recording.proofs.judging.judge_terms.Goals as goal
 use Rattle.recording.proofs.Puts.{blank, judge_stop, judge_more, judge_none}
 
-pub returns-in-err-judge-term : goal.returns-in-err-judge-term
-returns-in-err-judge-term c =
-    let z = c.loop-i.invariant.3 ∙ judge_stop c.args.terms.now c.loop-i.i c.loop-i.least blank _ (omega arith) c.in-err-judge-term.ensures in
+pub returns-in_err-judge_term : goal.returns-in_err-judge_term
+returns-in_err-judge_term c =
+    let z = c.loop-i.invariant.3 ∙ judge_stop c.args.terms.now c.loop-i.i c.loop-i.least blank _ (omega arith) c.in_err-judge_term.ensures in
     search rules
 
 pub loop-i-preserved : goal.loop-i-preserved
 loop-i-preserved c =
-    let h = c.in-ok-judge-term.ensures in (
+    let h = c.in_ok-judge_term.ensures in (
       omega arith,
       omega arith,
       omega arith,

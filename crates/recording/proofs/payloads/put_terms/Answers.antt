@@ -6,30 +6,30 @@ use Rattle.recording.proofs.payloads.put_terms.Goals as goal
 use lib.Seq.{sets}
 use Rattle.recording.proofs.Puts.{blank, size_more, spelled_none, spelled_more, puts_more}
 
-pub put-number-next-requires : goal.put-number-next-requires
-put-number-next-requires c =
+pub put_number-next-requires : goal.put_number-next-requires
+put_number-next-requires c =
     let z = size_more c.args.terms.now c.loop-i.i blank (omega arith) in
     let l = ap (λ n. length (encode n)) c.from.ensures in omega arith
 
-pub put-number-next-requires-in-loop-i : goal.put-number-next-requires-in-loop-i
-put-number-next-requires-in-loop-i c =
+pub put_number-next-requires-in-loop-i : goal.put_number-next-requires-in-loop-i
+put_number-next-requires-in-loop-i c =
     let z = size_more c.args.terms.now c.loop-i.i blank (omega arith) in
     let l = ap (λ n. length (encode n)) c.from.ensures in
-    let u : c.unsigned-of.result ≡ unsigned_of (get_or c.args.terms.now c.loop-i.i blank).coefficient = search rules in
+    let u : c.unsigned_of.result ≡ unsigned_of (get_or c.args.terms.now c.loop-i.i blank).coefficient = search rules in
     let m = ap (λ n. length (encode n)) u in omega arith
 
 pub loop-i-preserved : goal.loop-i-preserved
 loop-i-preserved c =
     let z = size_more c.args.terms.now c.loop-i.i blank (omega arith) in
     let l = ap (λ n. length (encode n)) c.from.ensures in
-    let u : c.unsigned-of.result ≡ unsigned_of (get_or c.args.terms.now c.loop-i.i blank).coefficient = search rules in
+    let u : c.unsigned_of.result ≡ unsigned_of (get_or c.args.terms.now c.loop-i.i blank).coefficient = search rules in
     let m = ap (λ n. length (encode n)) u in (
       omega arith,
       omega arith,
-      puts_more c.loop-i.out c.put-number-next.new.out c.put-number-next-in-loop-i.new.out c.loop-i.next c.put-number-next.result c.put-number-next-in-loop-i.result
+      puts_more c.loop-i.out c.put_number-next.new.out c.put_number-next-in-loop-i.new.out c.loop-i.next c.put_number-next.result c.put_number-next-in-loop-i.result
           _ _ _ _ (spelled_more c.args.terms.now c.loop-i.i blank (omega arith))
-          (rw c.from.ensures at c.put-number-next.ensures.out) (rw c.from.ensures at c.put-number-next.ensures.end)
-          (rw u at c.put-number-next-in-loop-i.ensures.out) (rw u at c.put-number-next-in-loop-i.ensures.end)
+          (rw c.from.ensures at c.put_number-next.ensures.out) (rw c.from.ensures at c.put_number-next.ensures.end)
+          (rw u at c.put_number-next-in-loop-i.ensures.out) (rw u at c.put_number-next-in-loop-i.ensures.end)
           ∙ c.loop-i.invariant.2,
     )
 

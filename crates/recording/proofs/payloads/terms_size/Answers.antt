@@ -9,7 +9,7 @@ pub loop-i-preserved : goal.loop-i-preserved
 loop-i-preserved c =
     let z = size_more c.args.terms.now c.loop-i.i blank (omega arith) in
     let l = ap (λ n. length (encode n)) c.from.ensures in
-    let u : c.unsigned-of.result ≡ unsigned_of (get_or c.args.terms.now c.loop-i.i blank).coefficient = search rules in
+    let u : c.unsigned_of.result ≡ unsigned_of (get_or c.args.terms.now c.loop-i.i blank).coefficient = search rules in
     let m = ap (λ n. length (encode n)) u in
     (omega arith, omega arith, omega arith)
 

@@ -5,11 +5,11 @@ use Rattle.records.specs.Sheets.{goal_says}
 use Rattle.recording.proofs.writing.write_goal.Goals as goal
 use Rattle.recording.proofs.Puts.{appended, too_short}
 
-pub returns-in-err-next : goal.returns-in-err-next
-returns-in-err-next c =
+pub returns-in_err-next : goal.returns-in_err-next
+returns-in_err-next c =
     let code : c.from-code.result ≡ goal_code c.args.goal = search rules in
     let size : c.width.result ≡ length (encode (goal_code c.args.goal)) = c.width.ensures.is ∙ ap (λ n. length (encode n)) code in
-    let h = c.in-err-next.ensures in
+    let h = c.in_err-next.ensures in
     let z = too_short (goal_says c.args.goal) c.args.out.now c.args.at 4 c.width.result _ refl refl size h.0 h.1 in
     search rules
 
@@ -17,6 +17,6 @@ pub returns : goal.returns
 returns c =
     let code : c.from-code.result ≡ goal_code c.args.goal = search rules in
     let size : c.width.result ≡ length (encode (goal_code c.args.goal)) = c.width.ensures.is ∙ ap (λ n. length (encode n)) code in
-    let h = c.in-ok-next.ensures in
-    appended (goal_says c.args.goal) c.args.out.now c.put-head.new.out c.put-number.new.out c.args.at c.in-ok-next.next c.put-number.result 4 c.width.result
-    refl refl size h.2 h.0 h.1 (rw code at c.put-number.ensures.out) (rw code at c.put-number.ensures.end)
+    let h = c.in_ok-next.ensures in
+    appended (goal_says c.args.goal) c.args.out.now c.put_head.new.out c.put_number.new.out c.args.at c.in_ok-next.next c.put_number.result 4 c.width.result
+    refl refl size h.2 h.0 h.1 (rw code at c.put_number.ensures.out) (rw code at c.put_number.ensures.end)

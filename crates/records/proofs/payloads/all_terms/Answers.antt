@@ -7,24 +7,24 @@ use Rattle.records.proofs.payloads.all_terms.Goals as goal
 pub loop-next-init : goal.loop-next-init
 loop-next-init c = (c.requires, omega arith, (length c.args.body.now - c.args.at, [], omega arith, sym (after_none _)))
 
-pub returns-in-err-read : goal.returns-in-err-read
-returns-in-err-read c =
+pub returns-in_err-read : goal.returns-in_err-read
+returns-in_err-read c =
     let (n, ts, h, e) = c.loop-next.invariant.2 in
     let z = e ∙ terms_fault ts n (n - 1) c.args.body.now c.args.place c.loop-next.least c.loop-next.next _ _ _
-    (omega arith) (omega arith) c.in-err-read.ensures.is in
+    (omega arith) (omega arith) c.in_err-read.ensures.is in
     search rules
 
 pub loop-next-preserved : goal.loop-next-preserved
 loop-next-preserved c =
     let (n, ts, h, e) = c.loop-next.invariant.2 in
-    let d = c.in-ok-read.ensures in (
+    let d = c.in_ok-read.ensures in (
       d.is.2,
       omega arith,
       (
         n - 1,
         ts ++ (_ ∷ []),
         omega arith,
-        e ∙ terms_more ts n (n - 1) c.args.body.now c.args.place c.loop-next.least c.loop-next.next _ c.in-ok-read.after
+        e ∙ terms_more ts n (n - 1) c.args.body.now c.args.place c.loop-next.least c.loop-next.next _ c.in_ok-read.after
             (omega arith) (omega arith) d.is.0,
       ),
     )

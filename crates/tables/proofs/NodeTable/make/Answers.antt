@@ -8,17 +8,17 @@ returns-then-eq c = λ parts ts table m. let e : c.args.fit ≡ c.args.out = sea
 
 pub returns-in-Some : goal.returns-in-Some
 returns-in-Some c = λ parts ts table m.
-    make_found parts ts c.args.self.now table c.args.part c.args.fit c.args.out m c.in-Some.k _ (sym c.node-of-n.ensures) c.in-Some.ensures.0 c.in-Some.ensures.1 _ (sym c.edge-to.ensures)
+    make_found parts ts c.args.self.now table c.args.part c.args.fit c.args.out m c.in-Some.k _ (sym c.node_of-n.ensures) c.in-Some.ensures.0 c.in-Some.ensures.1 _ (sym c.edge_to.ensures)
 
-pub returns-in-err-k : goal.returns-in-err-k
-returns-in-err-k c = λ parts ts table m.
+pub returns-in_err-k : goal.returns-in_err-k
+returns-in_err-k c = λ parts ts table m.
     let d : c.args.fit ≡ c.args.out → ⊥ = search rules in
-    let p = c.in-err-k.ensures in
-    subst (Made parts ts c.args.self.now c.push.new.self c.args.part c.args.fit c.args.out) (sym c.from-residual.ensures)
-    (make_full parts ts c.args.self.now table c.args.part c.args.fit c.args.out m _ (sym c.node-of-n.ensures) d c.in-default.ensures c.push.new.self p.fits p.places p.done.0 p.done.1)
+    let p = c.in_err-k.ensures in
+    subst (Made parts ts c.args.self.now c.push.new.self c.args.part c.args.fit c.args.out) (sym c.from_residual.ensures)
+    (make_full parts ts c.args.self.now table c.args.part c.args.fit c.args.out m _ (sym c.node_of-n.ensures) d c.in_default.ensures c.push.new.self p.fits p.places p.done.0 p.done.1)
 
 pub returns : goal.returns
 returns c = λ parts ts table m.
     let d : c.args.fit ≡ c.args.out → ⊥ = search rules in
-    let p = c.in-ok-k.ensures in
-    make_new parts ts c.args.self.now table c.args.part c.args.fit c.args.out m _ (sym c.node-of-n.ensures) d c.in-default.ensures c.push.new.self p.fits p.places c.in-ok-k.k p.done.0 p.done.2 _ (sym c.edge-to-2.ensures)
+    let p = c.in_ok-k.ensures in
+    make_new parts ts c.args.self.now table c.args.part c.args.fit c.args.out m _ (sym c.node_of-n.ensures) d c.in_default.ensures c.push.new.self p.fits p.places c.in_ok-k.k p.done.0 p.done.2 _ (sym c.edge_to-2.ensures)

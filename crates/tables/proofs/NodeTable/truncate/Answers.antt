@@ -5,7 +5,7 @@ use Rattle.tables.proofs.NodeTable.truncate.Goals as goal
 
 pub loop-self-preserved : goal.loop-self-preserved
 loop-self-preserved c =
-    let r = c.remove-last.ensures in
+    let r = c.remove_last.ensures in
     let l = r.less in
     let t = c.loop-self-test.true in
     (r.fits, omega arith, r.places ∙ c.loop-self.invariant.2, ap (take c.args.to) r.done ∙ (sym (take_less (made c.loop-self.self) c.args.to (c.loop-self.self.used - 1) (omega arith)) ∙ c.loop-self.invariant.3))

@@ -3,7 +3,7 @@ use Rattle.std.proofs.lemmas.Int.{ints}
 use Rattle.limits.proofs.Coefficients.{set_small}
 use Rattle.limits.proofs.drafts.Draft.term.Goals as goal
 
-pub invariant-of-self : goal.invariant-of-self
-invariant-of-self c =
+pub invariant_of-self : goal.invariant_of-self
+invariant_of-self c =
     let small : nat_abs (to_z w32 (of_z w32 c.args.term.coefficient)) ≤ 1000000 = omega (arith, ints) in
-    (search rules, (set_small c.args.self.now.coefficients c.args.term.part 1000000 _ small c.args.self.now.small, tt))
+    record { whole = search rules; small = set_small c.args.self.now.coefficients c.args.term.part 1000000 _ small c.args.self.now.small }
