@@ -10,28 +10,22 @@ use Rattle.jobs.proofs.Job.take_back.Goals as goal
 pub truncate-requires : goal.truncate-requires
 truncate-requires c =
     let fits : Fits c.args.self.now.table = fits_of c.args.self.now.table c.args.self.now.fits in
-    (fits, omega (arith, made_length c.args.self.now.table fits, back_fits c.args.self.now.parts (made c.args.self.now.table) c.args.self.now.ledger.records c.drop-last-mark.new.self.records c.args.self.now.ledger.count c.drop-last-mark.new.self.count c.drop-last-mark.result c.args.self.now.books c.drop-last-mark.ensures.records c.drop-last-mark.ensures.count c.drop-last-mark.ensures.mark))
+    (fits, omega (arith, made_length c.args.self.now.table fits, back_fits c.args.self.now.parts (made c.args.self.now.table) c.args.self.now.ledger.records c.drop_last-mark.new.self.records c.args.self.now.ledger.count c.drop_last-mark.new.self.count c.drop_last-mark.result c.args.self.now.books c.drop_last-mark.ensures.records c.drop_last-mark.ensures.count c.drop_last-mark.ensures.mark))
 
-pub invariant-of-self : goal.invariant-of-self
-invariant-of-self c = (
-  c.args.self.now.few,
-  (
-    ∣ c.truncate.ensures.fits ∣₁,
-    (
-      omega (arith, c.drop-last-mark.ensures.count, c.args.self.now.count),
-      (
-        ap length c.drop-last-mark.ensures.records ∙ c.args.self.now.whole,
-        (back_books c.args.self.now.parts (made c.args.self.now.table) c.args.self.now.ledger.records c.drop-last-mark.new.self.records c.args.self.now.ledger.count c.drop-last-mark.new.self.count c.drop-last-mark.result c.args.self.now.books c.drop-last-mark.ensures.records c.drop-last-mark.ensures.count c.drop-last-mark.ensures.mark (made c.truncate.new.self) c.truncate.ensures.done, tt),
-      ),
-    ),
-  ),
-)
+pub invariant_of-self : goal.invariant_of-self
+invariant_of-self c = record {
+  few = c.args.self.now.few;
+  fits = ∣ c.truncate.ensures.fits ∣₁;
+  count = omega (arith, c.drop_last-mark.ensures.count, c.args.self.now.count);
+  whole = ap length c.drop_last-mark.ensures.records ∙ c.args.self.now.whole;
+  books = back_books c.args.self.now.parts (made c.args.self.now.table) c.args.self.now.ledger.records c.drop_last-mark.new.self.records c.args.self.now.ledger.count c.drop_last-mark.new.self.count c.drop_last-mark.result c.args.self.now.books c.drop_last-mark.ensures.records c.drop_last-mark.ensures.count c.drop_last-mark.ensures.mark (made c.truncate.new.self) c.truncate.ensures.done;
+}
 
 pub returns : goal.returns
 returns c =
-    let inside : c.drop-last-mark.new.self.count < length c.args.self.now.ledger.records = omega (arith, c.drop-last-mark.ensures.count, c.args.self.now.count, c.args.self.now.whole) in
+    let inside : c.drop_last-mark.new.self.count < length c.args.self.now.ledger.records = omega (arith, c.drop_last-mark.ensures.count, c.args.self.now.count, c.args.self.now.whole) in
     record {
-      reply = sym (ap (λ b. cond b (refused 12) done) (back_some c.args.self.now.parts (made c.args.self.now.table) c.args.self.now.ledger.records c.drop-last-mark.new.self.records c.args.self.now.ledger.count c.drop-last-mark.new.self.count c.drop-last-mark.result c.args.self.now.books c.drop-last-mark.ensures.records c.drop-last-mark.ensures.count c.drop-last-mark.ensures.mark inside));
-      stands = ap (standing c.args.self.now.parts) (back_limits c.args.self.now.parts (made c.args.self.now.table) c.args.self.now.ledger.records c.drop-last-mark.new.self.records c.args.self.now.ledger.count c.drop-last-mark.new.self.count c.drop-last-mark.result c.args.self.now.books c.drop-last-mark.ensures.records c.drop-last-mark.ensures.count c.drop-last-mark.ensures.mark inside);
+      reply = sym (ap (λ b. cond b (refused 12) done) (back_some c.args.self.now.parts (made c.args.self.now.table) c.args.self.now.ledger.records c.drop_last-mark.new.self.records c.args.self.now.ledger.count c.drop_last-mark.new.self.count c.drop_last-mark.result c.args.self.now.books c.drop_last-mark.ensures.records c.drop_last-mark.ensures.count c.drop_last-mark.ensures.mark inside));
+      stands = ap (standing c.args.self.now.parts) (back_limits c.args.self.now.parts (made c.args.self.now.table) c.args.self.now.ledger.records c.drop_last-mark.new.self.records c.args.self.now.ledger.count c.drop_last-mark.new.self.count c.drop_last-mark.result c.args.self.now.books c.drop_last-mark.ensures.records c.drop_last-mark.ensures.count c.drop_last-mark.ensures.mark inside);
       places = c.truncate.ensures.places;
     }
