@@ -13,7 +13,7 @@ loop-i-init g c = (none_yet g.G.Grade.kind g.G.Grade.means g.G.Grade.weighs (pla
 pub loop-i-preserved : goal.loop-i-preserved
 loop-i-preserved g c =
     let (before, same-places, same_rows, same_length, rest) = c.loop-i.invariant in (
-      one_more g.G.Grade.kind g.G.Grade.means g.G.Grade.weighs (places c.new-job.result) (lent c.args.rows.now) c.args.calls.now c.loop-i.replies c.put.new.replies (stands c.loop-i.job) (stands c.perform-reply.new.job) c.loop-i.i (places c.loop-i.job) (lent c.loop-i.rows) TakeBack c.call-at.result.now c.perform-reply.result c.loop-i-test.true (omega (arith, same_length, c.loop-i-test.true, c.if-replies-calls.false)) same-places same_rows c.call-at.ensures c.put.ensures c.perform-reply.ensures.right c.perform-reply.ensures.stands before,
+      one_more g.G.Grade.kind g.G.Grade.means g.G.Grade.weighs (places c.new-job.result) (lent c.args.rows.now) c.args.calls.now c.loop-i.replies c.put.new.replies (stands c.loop-i.job) (stands c.perform-reply.new.job) c.loop-i.i (places c.loop-i.job) (lent c.loop-i.rows) TakeBack c.call_at.result.now c.perform-reply.result c.loop-i-test.true (omega (arith, same_length, c.loop-i-test.true, c.if-replies-calls.false)) same-places same_rows c.call_at.ensures c.put.ensures c.perform-reply.ensures.right c.perform-reply.ensures.stands before,
       c.perform-reply.ensures.places ∙ same-places,
       c.perform-reply.ensures.lent ∙ same_rows,
       ap length c.put.ensures ∙ simp length-set same_length,

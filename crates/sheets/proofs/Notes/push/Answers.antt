@@ -5,11 +5,12 @@ use Rattle.sheets.proofs.Weights.{agree_set}
 use Rattle.sheets.proofs.Makes.{parts_push}
 use Rattle.sheets.proofs.Notes.push.Goals as goal
 
-pub invariant-of-self : goal.invariant-of-self
-invariant-of-self c = (
-  (simp length-set c.args.self.now.whole.0, simp length-set c.args.self.now.whole.1, simp length-set c.args.self.now.whole.2),
-  (omega (arith, c.requires), (agree_set c.args.self.now.masses c.args.self.now.costs c.args.self.now.count _ c.args.figures.price (c.args.self.now.whole.0 ∙ sym c.args.self.now.whole.2) c.args.self.now.agree, tt)),
-)
+pub invariant_of-self : goal.invariant_of-self
+invariant_of-self c = record {
+  whole = (simp length-set c.args.self.now.whole.0, simp length-set c.args.self.now.whole.1, simp length-set c.args.self.now.whole.2);
+  few = omega (arith, c.requires);
+  agree = agree_set c.args.self.now.masses c.args.self.now.costs c.args.self.now.count _ c.args.figures.price (c.args.self.now.whole.0 ∙ sym c.args.self.now.whole.2) c.args.self.now.agree;
+}
 
 pub returns : goal.returns
 returns c =

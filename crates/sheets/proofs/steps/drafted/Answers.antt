@@ -24,6 +24,6 @@ loop-term-preserved c =
 
 pub returns : goal.returns
 returns c = record {
-  coefficients = made_coefficients c.args.bytes.now c.loop-term.draft.coefficients c.loop-term.draft.last c.loop-term.terms.bytes.now c.loop-term.terms.least c.loop-term.terms.at c.in-default.ensures.terms c.loop-term.invariant.0;
-  last = made_last c.args.bytes.now c.loop-term.draft.coefficients c.loop-term.draft.last c.loop-term.terms.bytes.now c.loop-term.terms.least c.loop-term.terms.at c.in-default.ensures.terms c.loop-term.invariant.0;
+  coefficients = made_coefficients c.args.bytes.now c.loop-term.draft.coefficients c.loop-term.draft.last c.loop-term.terms.bytes.now c.loop-term.terms.least c.loop-term.terms.at c.in_default.ensures.terms c.loop-term.invariant.0;
+  last = made_last c.args.bytes.now c.loop-term.draft.coefficients c.loop-term.draft.last c.loop-term.terms.bytes.now c.loop-term.terms.least c.loop-term.terms.at c.in_default.ensures.terms c.loop-term.invariant.0;
 }
