@@ -19,7 +19,7 @@ const USAGE: &str = "usage: setlist [--places N] < SHEET, with N from 1 to 60000
 fn parsed(text: &str) -> anyhow::Result<usize> {
     match text.parse::<usize>() {
         Ok(places) if places >= 1 && places <= MOST_PLACES => Ok(places),
-        _ => Err(USAGE.into()),
+        _ => Err(anyhow!(USAGE)),
     }
 }
 
@@ -30,10 +30,10 @@ fn places_asked(rt: &HostRuntime) -> anyhow::Result<usize> {
         return Ok(DEFAULT_PLACES);
     };
     let Some(count) = args.next() else {
-        return Err(USAGE.into());
+        return Err(anyhow!(USAGE));
     };
     if option.as_str() != "--places" || args.next().is_some() {
-        return Err(USAGE.into());
+        return Err(anyhow!(USAGE));
     }
     parsed(count.as_str())
 }
