@@ -1,14 +1,13 @@
 -- The sum without its bound, from the last part down.
-use Rattle.std.proofs.Common.{◌≡◌, ℕ, zero, suc, ◌+◌, ◌-◌, ◌^◌, ◌<◌, ◌≤◌, Bool, true, false, cond, List, [], ◌∷◌, ◌++◌, length, get_or, drop, replicate, ℤ, pos, negsuc, ◌+ℤ◌, nat_abs, sym, refl, ap, ◌∙◌, subst, ap₂, arith, drop-cons}
+use Rattle.std.proofs.Common.{◌≡◌, ℕ, zero, suc, ◌+◌, ◌-◌, ◌^◌, ◌<◌, ◌≤◌, Bool, true, false, cond, List, [], ◌∷◌, length, get_or, drop, replicate, ℤ, pos, ◌+ℤ◌, nat_abs, sym, refl, ap, ◌∙◌, subst, ap₂, arith, drop-cons}
 use lib.ListN.{length-replicate}
-use lib.IntN.{+ℤ_idr, +ℤ_idl, +ℤ_assoc}
+use lib.IntN.{+ℤ_idl}
 use Rattle.std.proofs.lemmas.Int.{ints}
-use Rattle.diagrams.specs.declared.Child.{Child}
-use Rattle.diagrams.specs.declared.Child.TheVariants.{Terminal, Place}
+use Rattle.diagrams.specs.declared.Child.TheVariants.{Terminal}
 use Rattle.diagrams.specs.declared.Node.{Node}
 use Rattle.diagrams.specs.declared.Edge.{Edge}
 use Rattle.limits.specs.Limits.{sum}
-use Rattle.diagrams.specs.Nodes.{value, From, Sound}
+use Rattle.diagrams.specs.Nodes.{value, From}
 use Rattle.diagrams.specs.Apply.{edge_at, joined, Joined, Makes, Allows, plus_edge, Sums}
 use Rattle.diagrams.proofs.Steps.{allows_settled, allows_ext, constant_is}
 use Rattle.diagrams.proofs.Settle.{edge_constant}

@@ -1,12 +1,11 @@
 -- Edges to one node that denote 0 or 1 have one constant.
-use Rattle.std.proofs.Common.{◌≡◌, ℕ, zero, suc, ◌+◌, ◌-◌, ◌≤◌, Bool, true, false, ◌⊎◌, List, [], ◌∷◌, length, replicate, ℤ, pos, ◌+ℤ◌, sym, refl, ap, ◌∙◌, subst, inl, inr, arith}
+use Rattle.std.proofs.Common.{◌≡◌, ℕ, suc, ◌+◌, ◌-◌, Bool, false, ◌⊎◌, List, [], ◌∷◌, length, replicate, ℤ, pos, ◌+ℤ◌, sym, refl, ap, ◌∙◌, subst, inl, inr, arith}
 use lib.ListN.{length-replicate}
 use lib.IntN.{+ℤ_idr, ℤ_discrete}
 use Rattle.std.proofs.lemmas.Int.{ints}
-use Rattle.diagrams.specs.declared.Child.{Child}
-use Rattle.diagrams.specs.declared.Child.TheVariants.{Terminal, Place}
+use Rattle.diagrams.specs.declared.Child.TheVariants.{Terminal}
 use Rattle.diagrams.specs.declared.Node.{Node}
-use Rattle.diagrams.specs.Nodes.{value, From, Sound}
+use Rattle.diagrams.specs.Nodes.{value}
 use Rattle.diagrams.specs.Apply.{Bit}
 use Rattle.diagrams.specs.Constants.{DenotesBits, OneConstant}
 use Rattle.diagrams.proofs.Canonical.{same_ref, value_out}

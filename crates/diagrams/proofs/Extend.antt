@@ -1,12 +1,12 @@
 -- More nodes leave what the older ones denote, and a sound table takes a new node.
-use Rattle.std.proofs.Common.{◌≡◌, ℕ, zero, suc, ◌+◌, ◌<◌, ◌≤◌, Bool, true, false, cond, eqb, ◌⊎◌, List, [], ◌∷◌, ◌++◌, length, ℤ, pos, ◌+ℤ◌, Some, None, Option, sym, refl, ap, ◌∙◌, subst, ap₂, inl, inr, ⊎_elim, arith}
+use Rattle.std.proofs.Common.{◌≡◌, ℕ, zero, suc, ◌<◌, Bool, true, false, cond, eqb, ◌⊎◌, List, [], ◌∷◌, ◌++◌, length, ℤ, pos, ◌+ℤ◌, Some, sym, refl, ap, ◌∙◌, subst, inl, inr, ⊎_elim, arith}
 use Rattle.std.specs.List.{slice_get}
 use Rattle.std.proofs.lemmas.Bool.{ne_eqb}
 use Rattle.diagrams.specs.declared.Child.{Child}
 use Rattle.diagrams.specs.declared.Child.TheVariants.{Terminal, Place}
 use Rattle.diagrams.specs.declared.Node.{Node}
 use Rattle.diagrams.specs.Nodes.{if_part, here, turn, value, From, Sound, Under, Ordered}
-use Rattle.diagrams.proofs.Canonical.{view, View, Stands, value_skip, value_fit, value_leave}
+use Rattle.diagrams.proofs.Canonical.{view, View}
 
 pub nth_more : (ns more : List Node) (k : ℕ) (n : Node) → slice_get ns k ≡ Some n → slice_get (ns ++ more) k ≡ Some n
 nth_more [] more k n e = let z : ◌≡◌ {A = ℕ} 0 1 = cc in absurd (omega arith)

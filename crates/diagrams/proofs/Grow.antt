@@ -1,7 +1,5 @@
 -- What stays as nodes are added, and the node that is made of two answers.
-use Rattle.std.proofs.Common.{◌≡◌, ℕ, zero, suc, ◌+◌, ◌-◌, ◌^◌, ◌<◌, ◌≤◌, Bool, true, false, cond, eqb, ◌⊎◌, List, [], ◌∷◌, ◌++◌, length, replicate, ℤ, pos, negsuc, ◌+ℤ◌, ◌-ℤ◌, ◌*ℤ◌, nat_abs, Some, None, Option, sym, refl, ap, ◌∙◌, subst, ap₂, inl, inr, ⊎_elim, append_assoc, arith, length-append}
-use lib.ListN.{length-replicate}
-use lib.IntN.{+ℤ_idr, +ℤ_idl, +ℤ_assoc}
+use Rattle.std.proofs.Common.{◌≡◌, ℕ, suc, ◌+◌, ◌-◌, ◌^◌, ◌≤◌, Bool, true, false, eqb, ◌⊎◌, List, [], ◌∷◌, ◌++◌, length, ℤ, pos, ◌+ℤ◌, ◌-ℤ◌, nat_abs, Some, None, sym, refl, ap, ◌∙◌, subst, ap₂, ⊎_elim, append_assoc, arith, length-append}
 use Rattle.std.proofs.lemmas.Bool.{cond-true, eq-eqb}
 use Rattle.std.proofs.lemmas.Int.{ints}
 use Rattle.std.specs.List.{slice_get}
@@ -9,15 +7,14 @@ use Rattle.diagrams.specs.declared.Child.{Child}
 use Rattle.diagrams.specs.declared.Child.TheVariants.{Terminal, Place}
 use Rattle.diagrams.specs.declared.Node.{Node}
 use Rattle.diagrams.specs.declared.Edge.{Edge}
-use Rattle.diagrams.specs.declared.Operation.{Operation}
 use Rattle.diagrams.specs.declared.Question.{Question}
-use Rattle.diagrams.specs.Needs.{table, less, depends, needed, once}
-use Rattle.diagrams.specs.Nodes.{if_part, here, turn, value, From, Sound}
+use Rattle.diagrams.specs.Needs.{needed, once}
+use Rattle.diagrams.specs.Nodes.{if_part, here, value, From, Sound}
 use Rattle.diagrams.specs.Held.{In, node_table}
-use Rattle.diagrams.specs.Apply.{meaning, edge_at, target, Bit, Fit, RightAt, Right, Asked, AllRight, Grown, Good, Cofactor, joined, Joined, question, Allows, node_of, Makes, Top, edge_to, Settled, Sums}
+use Rattle.diagrams.specs.Apply.{meaning, edge_at, target, Fit, Right, Asked, AllRight, Grown, Good, Cofactor, joined, Joined, node_of, Makes, Top, edge_to, Settled, Sums}
 use Rattle.diagrams.proofs.Tables.{table_ext}
 use Rattle.diagrams.proofs.Canonical.{value_fit, value_leave, Stands}
-use Rattle.diagrams.proofs.Extend.{nth_more, from_more, value_more, sound_push, nth_push, ordered_push}
+use Rattle.diagrams.proofs.Extend.{nth_more, value_more, sound_push, nth_push, ordered_push}
 use Rattle.diagrams.proofs.Reached.{Denotes, stands_depends, own_table, in_own_part}
 use Rattle.diagrams.proofs.Held.{AtMost}
 use Rattle.diagrams.proofs.Steps.{allows_ext, from_lower, cofactor_skip}

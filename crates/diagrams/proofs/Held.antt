@@ -1,20 +1,15 @@
 -- A table that holds one node for each needed function and no other has as many nodes as are needed.
-use Rattle.std.proofs.Common.{◌≡◌, ℕ, zero, suc, ◌+◌, ◌-◌, ◌^◌, ◌<◌, ◌≤◌, Bool, true, false, cond, not, ◌⊎◌, List, [], ◌∷◌, ◌++◌, length, replicate, ℤ, pos, negsuc, ◌+ℤ◌, ◌-ℤ◌, Some, None, Option, sym, refl, ap, ◌∙◌, subst, ap₂, inl, inr, ⊎_elim, add-zero, add-suc, zero-add, arith, length-append}
-use lib.ListN.{length-replicate}
+use Rattle.std.proofs.Common.{◌≡◌, ℕ, zero, suc, ◌+◌, ◌-◌, ◌^◌, ◌<◌, ◌≤◌, Bool, true, false, List, [], ◌∷◌, length, ℤ, pos, Some, sym, refl, ap, ◌∙◌, subst, ap₂, inl, inr, ⊎_elim, add-zero, zero-add, arith, length-append}
 use lib.Pow.{pow-lt}
-use lib.IntN.{+ℤ_idl}
-use Rattle.std.proofs.lemmas.Bool.{both_ways, cases_order, not_from_true}
-use Rattle.std.proofs.lemmas.Int.{ints}
+use Rattle.std.proofs.lemmas.Bool.{cases_order}
 use Rattle.std.specs.List.{slice_get}
-use Rattle.limits.specs.declared.Limit.{Limit}
-use Rattle.diagrams.specs.Needs.{table, less, depends, needed, needed_all, built, needs, once, same_table}
-use Rattle.diagrams.specs.declared.Child.{Child}
-use Rattle.diagrams.specs.declared.Child.TheVariants.{Terminal, Place}
+use Rattle.diagrams.specs.Needs.{table, needed_all, built, once}
+use Rattle.diagrams.specs.declared.Child.TheVariants.{Place}
 use Rattle.diagrams.specs.declared.Node.{Node}
-use Rattle.diagrams.specs.Nodes.{here, value, From, Sound}
-use Rattle.diagrams.specs.Held.{In, node_table, Holds, HeldCount}
-use Rattle.diagrams.proofs.Tables.{table_ext, table_same, same_table_eq, same_table_true, in_left, in_right, in_either, Apart, no_more, once_in, in_once, once_apart}
-use Rattle.diagrams.proofs.Canonical.{same_ref, offsets, value_out, value_skip, value_fit, value_leave, view, View, Stands, Same, SameEdge}
+use Rattle.diagrams.specs.Nodes.{value, Sound}
+use Rattle.diagrams.specs.Held.{In, node_table, HeldCount}
+use Rattle.diagrams.proofs.Tables.{table_same, Apart, no_more, once_in, in_once, once_apart}
+use Rattle.diagrams.proofs.Canonical.{same_ref}
 
 table_size : (m : ℕ) (f : List Bool → ℤ) → length (table m f) ≡ 2 ^ m
 table_size zero f = refl

@@ -3,7 +3,7 @@ use Rattle.std.proofs.Common.{◌≡◌, ℕ, zero, suc, ◌+◌, ◌≤◌, Boo
 use Rattle.std.proofs.lemmas.Bool.{both_ways, cases_Bool, not-true, not-false}
 use Rattle.limits.specs.declared.Limit.{Limit}
 use Rattle.limits.specs.Limits.{sum, keeps}
-use Rattle.diagrams.specs.Needs.{table, less, depends, needed, needed_all, built, needs, once, indicator, same_table}
+use Rattle.diagrams.specs.Needs.{table, less, depends, needed, needed_all, built, once, indicator, same_table}
 use Rattle.diagrams.specs.Held.{In}
 use Rattle.diagrams.specs.Needed.{Needed, NeededAre, MoreNeedNoFewer}
 use Rattle.diagrams.proofs.Tables.{table_same, same_table_eq, same_table_true, in_left, in_right, in_either, no_more, once_in, in_once, once_apart}

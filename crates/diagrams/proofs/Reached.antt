@@ -1,7 +1,7 @@
 -- The nodes below an edge are the needed functions of what the edge denotes.
-use Rattle.std.proofs.Common.{◌≡◌, ℕ, zero, suc, ◌+◌, ◌-◌, ◌<◌, ◌≤◌, Bool, true, false, cond, not, ◌⊎◌, List, [], ◌∷◌, ◌++◌, length, replicate, ℤ, pos, negsuc, ◌+ℤ◌, ◌-ℤ◌, Some, None, Option, sym, refl, ap, ◌∙◌, subst, ap₂, inl, inr, ⊎_elim, arith}
+use Rattle.std.proofs.Common.{◌≡◌, ℕ, zero, suc, ◌+◌, ◌-◌, Bool, true, false, cond, ◌⊎◌, List, [], ◌∷◌, ◌++◌, length, replicate, ℤ, pos, ◌+ℤ◌, ◌-ℤ◌, Some, None, sym, refl, ap, ◌∙◌, subst, ap₂, inl, inr, ⊎_elim, arith}
 use lib.ListN.{length-replicate}
-use lib.IntN.{+ℤ_idl, +ℤ_assoc}
+use lib.IntN.{+ℤ_assoc}
 use Rattle.std.proofs.lemmas.Bool.{both_ways, cases_Bool, not_from_true, not_from_false}
 use Rattle.std.proofs.lemmas.Int.{ints}
 use Rattle.std.specs.List.{slice_get}
@@ -12,7 +12,7 @@ use Rattle.diagrams.specs.declared.Node.{Node}
 use Rattle.diagrams.specs.Nodes.{here, value, From, Sound}
 use Rattle.diagrams.specs.Held.{In, node_table}
 use Rattle.diagrams.proofs.Tables.{table_ext, table_same, same_table_eq, same_table_true, in_left, in_right, in_either}
-use Rattle.diagrams.proofs.Canonical.{same_ref, only_terminal, offsets, value_out, value_skip, value_fit, value_leave, view, View, Stands, Same, SameEdge}
+use Rattle.diagrams.proofs.Canonical.{same_ref, only_terminal, offsets, value_out, value_skip, value_fit, value_leave, view, View, Stands, SameEdge}
 
 -- the node at k is r or below it
 pub data Reach (ns : List Node) (k : ℕ) : Child → Type 0 where

@@ -1,7 +1,6 @@
 -- A part settled, the least part, and the questions that constants answer.
-use Rattle.std.proofs.Common.{◌≡◌, ℕ, zero, suc, ◌+◌, ◌-◌, ◌^◌, ◌<◌, ◌≤◌, min, Bool, true, false, cond, eqb, ◌⊎◌, List, [], ◌∷◌, ◌++◌, length, ℤ, pos, negsuc, ◌+ℤ◌, ◌*ℤ◌, nat_abs, Some, None, Option, sym, refl, ap, ◌∙◌, subst, ap₂, inl, inr, ⊎_elim, arith, MatchOption}
-use lib.IntN.{+ℤ_idr, +ℤ_idl, +ℤ_assoc}
-use lib.Signed.{le_z}
+use Rattle.std.proofs.Common.{◌≡◌, ℕ, suc, ◌<◌, ◌≤◌, Bool, true, false, eqb, ◌⊎◌, List, [], ◌∷◌, ℤ, pos, ◌+ℤ◌, ◌*ℤ◌, Some, None, Option, sym, refl, ap, ◌∙◌, subst, ap₂, inl, inr, ⊎_elim, arith, MatchOption}
+use lib.IntN.{+ℤ_idr, +ℤ_assoc}
 use Rattle.std.proofs.lemmas.Bool.{cond-true, eq-eqb}
 use Rattle.std.proofs.lemmas.Int.{ints}
 use Rattle.std.specs.List.{slice_get}
@@ -9,14 +8,12 @@ use Rattle.diagrams.specs.declared.Child.{Child}
 use Rattle.diagrams.specs.declared.Child.TheVariants.{Terminal, Place}
 use Rattle.diagrams.specs.declared.Node.{Node}
 use Rattle.diagrams.specs.declared.Edge.{Edge}
-use Rattle.diagrams.specs.declared.Operation.{Operation}
-use Rattle.diagrams.specs.declared.Operation.TheVariants.{AtMost, AtLeast, Times}
+use Rattle.diagrams.specs.declared.Operation.TheVariants.{Times}
 use Rattle.diagrams.specs.declared.Question.{Question}
-use Rattle.diagrams.specs.Needs.{indicator}
-use Rattle.diagrams.specs.Nodes.{if_part, here, turn, value, From, Sound}
-use Rattle.diagrams.specs.Apply.{meaning, edge_at, target, Bit, Fit, RightAt, Right, Cofactor, Answers, constant_edge, Known, Open, Asked, Settled, question, Makes, Joined, Top}
+use Rattle.diagrams.specs.Nodes.{if_part, here, value, From, Sound}
+use Rattle.diagrams.specs.Apply.{meaning, edge_at, Bit, Fit, RightAt, Right, Cofactor, Answers, Known, Open, Asked, Settled, question, Makes, Joined, Top}
 use Rattle.diagrams.proofs.Canonical.{value_fit, value_leave}
-use Rattle.diagrams.proofs.Steps.{cofactor_skip, from_lower, asked_settled, answer_bit, bit_small, allows_joined, right_top, right_joined}
+use Rattle.diagrams.proofs.Steps.{asked_settled, answer_bit, bit_small, allows_joined, right_top, right_joined}
 
 at_node : (ns : List Node) (i k : ℕ) (n : Node) → slice_get ns k ≡ Some n → n.part ≡ i → here ns i (Place k) ≡ Some n
 at_node ns i k n f e = ap (if_part i) f ∙ cond-true (eqb n.part i) (Some n) None (eq-eqb n.part i e)

@@ -1,11 +1,9 @@
 -- From part to part: what is asked, what is answered, and what may be built.
-use Rattle.std.proofs.Common.{◌≡◌, ℕ, zero, suc, ◌+◌, ◌-◌, ◌^◌, ◌<◌, ◌≤◌, Bool, true, false, cond, not, eqb, ◌⊎◌, List, [], ◌∷◌, ◌++◌, length, replicate, ℤ, pos, negsuc, ◌+ℤ◌, ◌-ℤ◌, ◌*ℤ◌, nat_abs, Some, None, Option, sym, refl, ap, ◌∙◌, subst, ap₂, inl, inr, ⊎_elim, append_assoc, arith, length-append}
+use Rattle.std.proofs.Common.{◌≡◌, ℕ, zero, suc, ◌+◌, ◌-◌, ◌^◌, ◌<◌, ◌≤◌, Bool, true, false, cond, not, eqb, List, [], ◌∷◌, ◌++◌, length, replicate, ℤ, ◌+ℤ◌, ◌-ℤ◌, ◌*ℤ◌, nat_abs, Some, None, sym, refl, ap, ◌∙◌, subst, ap₂, inl, inr, arith}
 use lib.ListN.{length-replicate}
-use lib.IntN.{+ℤ_idr, +ℤ_idl, +ℤ_assoc}
+use lib.IntN.{+ℤ_idr}
 use lib.Signed.{le_z}
-use Rattle.std.proofs.lemmas.Bool.{cond-false, ne_eqb, cases_order}
-use Rattle.std.proofs.lemmas.Int.{ints}
-use Rattle.std.specs.List.{slice_get}
+use Rattle.std.proofs.lemmas.Bool.{cond-false, ne_eqb}
 use Rattle.diagrams.specs.declared.Child.{Child}
 use Rattle.diagrams.specs.declared.Child.TheVariants.{Terminal, Place}
 use Rattle.diagrams.specs.declared.Node.{Node}
@@ -13,13 +11,12 @@ use Rattle.diagrams.specs.declared.Edge.{Edge}
 use Rattle.diagrams.specs.declared.Operation.{Operation}
 use Rattle.diagrams.specs.declared.Operation.TheVariants.{AtMost, AtLeast, Times}
 use Rattle.diagrams.specs.declared.Question.{Question}
-use Rattle.diagrams.specs.Needs.{table, less, depends, needed, indicator, once, same_table}
-use Rattle.diagrams.specs.Nodes.{if_part, here, turn, value, From, Sound}
-use Rattle.diagrams.specs.Held.{In, node_table}
-use Rattle.diagrams.specs.Apply.{meaning, edge_at, target, Bit, Fit, RightAt, Right, Asked, AllRight, Grown, Good, Cofactor, joined, Joined, question, Allows, Top}
+use Rattle.diagrams.specs.Needs.{table, less, depends, needed, indicator, same_table}
+use Rattle.diagrams.specs.Nodes.{if_part, here, value, From}
+use Rattle.diagrams.specs.Held.{In}
+use Rattle.diagrams.specs.Apply.{meaning, edge_at, target, Bit, Fit, RightAt, Right, Asked, Cofactor, joined, Joined, question, Allows, Top}
 use Rattle.diagrams.proofs.Tables.{table_ext, in_left, in_right}
-use Rattle.diagrams.proofs.Canonical.{value_skip, value_fit, value_leave, value_out, Stands}
-use Rattle.diagrams.proofs.Extend.{nth_more, from_more, value_more}
+use Rattle.diagrams.proofs.Canonical.{value_skip, value_out}
 
 -- equal functions need the same
 pub needed_ext : (m : ℕ) (f g : List Bool → ℤ) → ((c : List Bool) → length c ≡ m → f c ≡ g c) → needed m f ≡ needed m g

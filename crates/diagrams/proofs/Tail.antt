@@ -1,19 +1,18 @@
 -- The sum that is left as parts are settled, and comparisons that its range decides.
-use Rattle.std.proofs.Common.{◌≡◌, ℕ, zero, suc, ◌+◌, ◌-◌, ◌<◌, ◌≤◌, Bool, true, false, cond, List, [], ◌∷◌, length, get_or, drop, replicate, ℤ, pos, ◌+ℤ◌, ◌≤ℤ◌, sym, refl, ap, ◌∙◌, subst, ap₂, arith, drop-cons}
+use Rattle.std.proofs.Common.{◌≡◌, ℕ, zero, suc, ◌+◌, ◌-◌, ◌<◌, ◌≤◌, Bool, false, cond, List, [], ◌∷◌, length, get_or, drop, replicate, ℤ, pos, ◌+ℤ◌, ◌≤ℤ◌, sym, ap, ◌∙◌, subst, arith, drop-cons}
 use lib.ListN.{length-replicate}
 use lib.IntN.{+ℤ_idl}
 use Rattle.std.proofs.lemmas.Int.{ints}
 use Rattle.diagrams.specs.declared.Child.{Child}
-use Rattle.diagrams.specs.declared.Child.TheVariants.{Terminal, Place}
 use Rattle.diagrams.specs.declared.Node.{Node}
 use Rattle.diagrams.specs.declared.Edge.{Edge}
 use Rattle.diagrams.specs.declared.Operation.TheVariants.{Times}
 use Rattle.diagrams.specs.declared.Question.{Question}
 use Rattle.limits.specs.Limits.{sum}
 use Rattle.diagrams.specs.Nodes.{value, From, Sound}
-use Rattle.diagrams.specs.Apply.{meaning, edge_at, Right, Cofactor, Settled, Grown, Sums, Tail, Decides}
+use Rattle.diagrams.specs.Apply.{meaning, edge_at, Right, Settled, Grown, Sums, Tail, Decides}
 use Rattle.diagrams.proofs.Canonical.{value_out}
-use Rattle.diagrams.proofs.Steps.{value_up, from_lower, constant_is}
+use Rattle.diagrams.proofs.Steps.{value_up, from_lower}
 use Rattle.diagrams.proofs.Settle.{edge_constant}
 use Rattle.diagrams.proofs.Grow.{value_grown}
 use Rattle.diagrams.proofs.Chain.{sum_out, sums_constant}

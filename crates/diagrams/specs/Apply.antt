@@ -1,7 +1,6 @@
 -- What a question asks, which answers are right, and what may be built.
-use Rattle.std.specs.Prelude.{◌≡◌, ℕ, zero, suc, ◌+◌, ◌-◌, ◌^◌, ◌<◌, ◌≤◌, Bool, true, false, cond, ◌⊎◌, List, [], ◌∷◌, ◌++◌, length, drop, ℤ, pos, ◌+ℤ◌, ◌-ℤ◌, ◌*ℤ◌, ◌≤ℤ◌, Some, None, Option, ◌≢◌, int_le, unsigned_abs}
+use Rattle.std.specs.Prelude.{◌≡◌, ℕ, suc, ◌+◌, ◌-◌, ◌^◌, ◌<◌, ◌≤◌, Bool, true, false, cond, ◌⊎◌, List, [], ◌∷◌, ◌++◌, length, drop, ℤ, pos, ◌+ℤ◌, ◌-ℤ◌, ◌*ℤ◌, ◌≤ℤ◌, Some, ◌≢◌, int_le, unsigned_abs}
 use Rattle.std.specs.List.{slice_get}
-use Rattle.diagrams.specs.declared.Child.{Child}
 use Rattle.diagrams.specs.declared.Child.TheVariants.{Terminal, Place}
 use Rattle.diagrams.specs.declared.Node.{Node}
 use Rattle.diagrams.specs.declared.Edge.{Edge}
@@ -9,7 +8,7 @@ use Rattle.diagrams.specs.declared.Operation.{Operation}
 use Rattle.diagrams.specs.declared.Operation.TheVariants.{AtMost, AtLeast, Times}
 use Rattle.diagrams.specs.declared.Question.{Question}
 use Rattle.limits.specs.Limits.{sum}
-use Rattle.diagrams.specs.Needs.{needed, indicator, once}
+use Rattle.diagrams.specs.Needs.{needed, indicator}
 use Rattle.diagrams.specs.Nodes.{value, From, Sound, Ordered}
 use Rattle.diagrams.specs.Held.{In, node_table}
 

@@ -1,10 +1,9 @@
 -- A node table that holds one node for each needed function and no other.
-use Rattle.std.specs.Prelude.{◌≡◌, ℕ, suc, ◌-◌, ◌≤◌, ◌⊎◌, List, [], ◌∷◌, length, ℤ, pos, Some, None}
+use Rattle.std.specs.Prelude.{◌≡◌, ℕ, ◌-◌, ◌⊎◌, List, [], ◌∷◌, length, ℤ, pos, Some}
 use Rattle.std.specs.List.{slice_get}
 use Rattle.limits.specs.declared.Limit.{Limit}
 use Rattle.diagrams.specs.Needs.{table, needed_all, built, needs}
-use Rattle.diagrams.specs.declared.Child.{Child}
-use Rattle.diagrams.specs.declared.Child.TheVariants.{Terminal, Place}
+use Rattle.diagrams.specs.declared.Child.TheVariants.{Place}
 use Rattle.diagrams.specs.declared.Node.{Node}
 use Rattle.diagrams.specs.Nodes.{value, Sound}
 

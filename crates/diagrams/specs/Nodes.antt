@@ -1,5 +1,5 @@
 -- Edge-valued diagrams: nodes in their places, what a node denotes, and a sound table.
-use Rattle.std.specs.Prelude.{◌≡◌, ℕ, zero, suc, ◌+◌, ◌<◌, ◌≤◌, Bool, true, false, cond, List, [], ◌∷◌, length, ℤ, pos, ◌+ℤ◌, Some, None, Option, ◌==◌, ◌≢◌}
+use Rattle.std.specs.Prelude.{◌≡◌, ℕ, suc, ◌<◌, ◌≤◌, Bool, cond, List, [], ◌∷◌, length, ℤ, pos, ◌+ℤ◌, Some, None, Option, ◌==◌, ◌≢◌}
 use Rattle.std.specs.List.{slice_get}
 use Rattle.diagrams.specs.declared.Child.{Child}
 use Rattle.diagrams.specs.declared.Child.TheVariants.{Terminal, Place}

@@ -1,9 +1,9 @@
 -- The rule's choice is first among those that pass.
-use Rattle.std.proofs.Common.{◌≡◌, ℕ, suc, Bool, true, false, cond, not, ◌⊎◌, List, [], ◌∷◌, length, Some, None, Option, sym, refl, ap, ◌∙◌, subst, ap₂, inl, inr, ⊎_elim, arith}
+use Rattle.std.proofs.Common.{◌≡◌, suc, Bool, true, false, cond, not, List, [], ◌∷◌, length, Some, None, Option, sym, refl, ap, ◌∙◌, ap₂, ⊎_elim, arith}
 use Rattle.std.proofs.lemmas.Bool.{both_ways, cases_Bool}
 use Rattle.grades.specs.Laws.{Kind, Laws}
 use Rattle.grades.specs.Rule.{grade, grade_from, best, chosen, answer, left_out, put_on}
-use Rattle.grades.specs.Optimal.{First, NonePasses, Answers, RuleIsFirst, Best, Settled, RuleSettles, BestIsBest}
+use Rattle.grades.specs.Optimal.{NonePasses, Answers, RuleIsFirst, Best, Settled, RuleSettles, BestIsBest}
 
 module _ {G : Type 0} (K : Kind G) (laws : Laws K) where
   grade_from_is : (g : G) (ws : List G) (c : List Bool) → grade_from K g ws c ≡ K.join g (grade K ws c)

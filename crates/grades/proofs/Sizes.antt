@@ -1,8 +1,8 @@
 -- Sizes of the grades of choices.
-use Rattle.std.proofs.Common.{ℕ, ◌+◌, ◌*◌, ◌≤◌, Bool, true, false, List, [], ◌∷◌, length, arith}
+use Rattle.std.proofs.Common.{◌+◌, ◌*◌, ◌≤◌, Bool, true, false, List, [], ◌∷◌, length, arith}
 use Rattle.std.specs.List.{AllByRecursion as All}
 use Rattle.grades.specs.Laws.{Kind, Laws}
-use Rattle.grades.specs.Rule.{grade, grade_from}
+use Rattle.grades.specs.Rule.{grade_from}
 use Rattle.grades.specs.Optimal.{SizesStay}
 
 module _ {G : Type 0} (K : Kind G) (laws : Laws K) where

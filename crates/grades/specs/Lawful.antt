@@ -1,10 +1,10 @@
 -- The three kinds keep the laws.
-use Rattle.std.specs.Prelude.{◌≡◌, ℕ, ◌+◌, ℤ, refl}
+use Rattle.std.specs.Prelude.{◌≡◌, ℕ, ℤ, refl}
 use Rattle.std.proofs.Common.{ap, ◌∙◌, arith, add_assoc, add-zero, zero-add}
 use Rattle.std.proofs.Math.IntN.{+ℤ_assoc, +ℤ_idl, +ℤ_idr}
 use Rattle.std.proofs.lemmas.Int.{ints}
 use Rattle.grades.specs.Laws.{Laws}
-use Rattle.grades.specs.Kinds.{Priced, priced, mass_kind, wait_kind, mass_price_kind}
+use Rattle.grades.specs.Kinds.{priced, mass_kind, wait_kind, mass_price_kind}
 
 pub mass_laws : Laws mass_kind
 mass_laws = record {

@@ -1,5 +1,5 @@
 -- What the rule's choice is among all choices.
-use Rattle.std.specs.Prelude.{◌≡◌, ℕ, ◌≤◌, Bool, true, false, not, List, [], ◌∷◌, length, Some, None, Option, ◌≢◌}
+use Rattle.std.specs.Prelude.{◌≡◌, ◌≤◌, Bool, true, false, not, List, [], ◌∷◌, length, Some, None, Option, ◌≢◌}
 use Rattle.std.specs.List.{AllByRecursion as All}
 use Rattle.grades.specs.Laws.{Kind}
 use Rattle.grades.specs.Rule.{grade, best, chosen, answer, left_out, put_on}

@@ -1,5 +1,5 @@
 -- Coefficients within a range, as terms are taken.
-use Rattle.std.proofs.Common.{◌≡◌, ℕ, zero, suc, ◌<◌, ◌≤◌, List, [], ◌∷◌, length, get_or, set, replicate, ℤ, pos, nat_abs, sym, refl, subst, arith}
+use Rattle.std.proofs.Common.{ℕ, zero, suc, ◌≤◌, List, [], ◌∷◌, get_or, set, replicate, ℤ, pos, nat_abs, arith}
 
 pub zeros_small : (n m i : ℕ) → nat_abs (get_or (replicate n (pos 0)) i (pos 0)) ≤ m
 zeros_small zero m i = omega arith

@@ -1,5 +1,5 @@
 -- text put piece by piece
-use Rattle.std.proofs.Common.{◌≡◌, ℕ, suc, ◌+◌, ◌-◌, ◌/◌, ◌%◌, ◌^◌, ◌<◌, ◌≤◌, List, [], ◌∷◌, ◌++◌, map, length, get_or, drop, set, ℤ, codes, decimal, sym, refl, ap, ◌∙◌, append_assoc, arith, length-append, Bor, eq-eqb}
+use Rattle.std.proofs.Common.{◌≡◌, ℕ, ◌+◌, ◌/◌, ◌%◌, ◌^◌, ◌<◌, ◌≤◌, List, [], ◌∷◌, ◌++◌, length, get_or, drop, set, ℤ, codes, decimal, sym, refl, ap, ◌∙◌, append_assoc, arith, length-append, Bor, eq-eqb}
 use lib.Seq.{sets, sets-eq}
 use Rattle.std.specs.Fmt.{signed_decimal}
 use Rattle.std.proofs.lemmas.Fmt.{decimal_digit, decimal_step}
@@ -7,8 +7,7 @@ use Rattle.std.proofs.lemmas.List.{at_drop_more, at_drop_all}
 use Rattle.std.proofs.lemmas.Bool.{ne_eqb}
 use Rattle.limits.specs.Choices.{bits}
 use Rattle.numbers.proofs.Chains.{chain}
-use Rattle.listings.specs.Listings.{goal_line, fit_line, fit_lines, best_text, fault_text, contents, fitted}
-use Rattle.listings.specs.declared.Grade.{Grade}
+use Rattle.listings.specs.Listings.{goal_line, fit_line, fit_lines, fault_text, contents, fitted}
 use Rattle.listings.specs.declared.Grade.TheVariants.{Mass, Wait, MassPrice}
 
 pub one_digit : (n : ℕ) → n < 10 → length (decimal n) ≡ 1

@@ -1,5 +1,5 @@
 -- Two questions that the derived comparison finds equal are one.
-use Rattle.std.proofs.Common.{rules, ◌≡◌, ◌∙◌, sym, refl, arith, Bool, true, false, ◌&&◌}
+use Rattle.std.proofs.Common.{rules, ◌≡◌, refl, Bool, true, false, ◌&&◌}
 use Rattle.diagrams.specs.declared.Question.{Question}
 use Rattle.diagrams.specs.declared.Edge.{Edge}
 use Rattle.diagrams.specs.declared.Operation.{Operation}

@@ -1,7 +1,7 @@
 -- what is read as a number is spelled as that number is
-use Rattle.std.proofs.Common.{◌≡◌, ℕ, zero, suc, ◌+◌, ◌-◌, ◌*◌, ◌/◌, ◌%◌, ◌<◌, ◌≤◌, Bool, true, false, cond, eqb, ltb, List, [], ◌∷◌, ◌++◌, length, get_or, drop, sym, refl, ap, ◌∙◌, one-add, arith, ltb-false, ltb-true, le-ltb, lt-ltb, eq-eqb}
+use Rattle.std.proofs.Common.{◌≡◌, ℕ, zero, suc, ◌+◌, ◌-◌, ◌*◌, ◌/◌, ◌%◌, ◌<◌, ◌≤◌, Bool, true, false, cond, eqb, ltb, List, [], ◌∷◌, ◌++◌, length, drop, sym, refl, ap, ◌∙◌, one-add, arith, ltb-false, ltb-true}
 use Rattle.std.proofs.lemmas.Bool.{eqb-false}
-use Rattle.numbers.specs.Numbers.{Reading, read, unread, carry, last_byte, rest_of_number, decode, groups, encode}
+use Rattle.numbers.specs.Numbers.{Reading, read, unread, carry, last_byte, rest_of_number, groups}
 use Rattle.numbers.specs.Laws.{Bytes}
 use Rattle.numbers.proofs.Writes.{groups_more, groups_last}
 

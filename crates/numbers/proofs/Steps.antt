@@ -1,7 +1,7 @@
-use Rattle.std.proofs.Common.{◌≡◌, ℕ, zero, suc, ◌+◌, ◌-◌, ◌*◌, ◌/◌, ◌%◌, ◌^◌, ◌<◌, ◌≤◌, Bool, true, false, cond, eqb, ltb, List, [], ◌∷◌, ◌++◌, length, get_or, drop, sym, refl, ap, ◌∙◌, subst, add_assoc, mul_assoc, mul_comm, one-mul, zero-add, mul-add, arith, ltb-false, ltb-true, le-ltb, lt-ltb, eq-eqb}
+use Rattle.std.proofs.Common.{◌≡◌, ℕ, zero, suc, ◌+◌, ◌-◌, ◌*◌, ◌<◌, ◌≤◌, Bool, true, false, List, [], ◌∷◌, length, get_or, drop, sym, refl, ap, ◌∙◌, mul_assoc, one-mul, zero-add, mul-add, arith, le-ltb, lt-ltb}
 use Rattle.std.proofs.lemmas.Bool.Decides.{nat_tests}
 use Rattle.std.proofs.lemmas.List.{at_drop_more, drop_all}
-use Rattle.numbers.specs.Numbers.{Reading, read, unread, carry, last_byte, rest_of_number, decode, groups, encode}
+use Rattle.numbers.specs.Numbers.{Reading, read, unread, carry, last_byte, rest_of_number}
 
 pub carry_none : (r : Reading ℕ) → carry 1 0 0 r ≡ r
 carry_none (read v n) = ap (λ x. read x (0 + n)) (zero-add (1 * v) ∙ one-mul v) ∙ ap (read v) (zero-add n)

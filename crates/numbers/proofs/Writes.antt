@@ -1,8 +1,8 @@
-use Rattle.std.proofs.Common.{◌≡◌, ℕ, zero, suc, ◌+◌, ◌-◌, ◌*◌, ◌/◌, ◌%◌, ◌^◌, ◌<◌, ◌≤◌, Bool, true, false, cond, eqb, ltb, List, [], ◌∷◌, ◌++◌, length, get_or, take, drop, set, sym, refl, ap, ◌∙◌, subst, append_assoc, zero-add, arith, ltb-false, ltb-true, le-ltb, lt-ltb, eq-eqb}
+use Rattle.std.proofs.Common.{◌≡◌, ℕ, zero, suc, ◌+◌, ◌-◌, ◌*◌, ◌/◌, ◌%◌, ◌^◌, ◌<◌, ◌≤◌, Bool, true, false, cond, ltb, List, [], ◌∷◌, ◌++◌, length, take, drop, set, sym, refl, ap, ◌∙◌, append_assoc, arith, ltb-false, le-ltb, lt-ltb}
 use native.Mathlib.Nat.{pow-succ'}
 use lib.Seq.{sets, sets-eq}
 use Rattle.std.proofs.lemmas.List.{drop_at, length-take-le}
-use Rattle.numbers.specs.Numbers.{Reading, read, unread, carry, last_byte, rest_of_number, decode, groups, encode}
+use Rattle.numbers.specs.Numbers.{read, rest_of_number, decode, groups, encode}
 use Rattle.numbers.proofs.Steps.{ends}
 
 pub groups_more : (left v : ℕ) → 0 < left → 128 ≤ v → groups left v ≡ (v % 128 + 128) ∷ groups (left - 1) (v / 128)

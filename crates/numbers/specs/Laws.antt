@@ -1,5 +1,5 @@
 -- What holds of every number and its spelling.
-use Rattle.std.specs.Prelude.{◌≡◌, ℕ, ◌+◌, ◌-◌, ◌^◌, ◌<◌, List, ◌++◌, length, ℤ, slice_index, slice_range}
+use Rattle.std.specs.Prelude.{◌≡◌, ℕ, ◌+◌, ◌^◌, ◌<◌, List, ◌++◌, length, ℤ, slice_index, slice_range}
 use Rattle.numbers.specs.Numbers.{read, read_number, read_signed, unsigned_of, encode, encode_signed}
 
 -- a list of bytes

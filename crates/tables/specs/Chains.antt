@@ -1,5 +1,5 @@
 -- Places, their buckets and the chains of each bucket.
-use Rattle.std.specs.Prelude.{◌≡◌, ℕ, ◌+◌, ◌-◌, ◌*◌, ◌%◌, ◌<◌, ◌≤◌, min, List, map, length, take, set, pos, slice_index_or, slice_set, unsigned_abs}
+use Rattle.std.specs.Prelude.{◌≡◌, ℕ, ◌+◌, ◌-◌, ◌*◌, ◌%◌, ◌<◌, ◌≤◌, min, List, map, length, take, pos, slice_index_or, slice_set, unsigned_abs}
 use Rattle.diagrams.specs.declared.Child.{Child}
 use Rattle.diagrams.specs.declared.Child.TheVariants as child
 use Rattle.diagrams.specs.declared.Node.{Node}

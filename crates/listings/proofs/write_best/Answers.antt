@@ -1,8 +1,6 @@
-use Rattle.std.proofs.Common.{◌≡◌, ℕ, ◌+◌, ◌-◌, ◌/◌, ◌%◌, ◌^◌, ◌<◌, ◌≤◌, List, [], ◌∷◌, ◌++◌, length, get_or, drop, codes, decimal, sym, refl, ap, ◌∙◌, append_assoc, arith, length-append, rules}
-use lib.Seq.{sets}
+use Rattle.std.proofs.Common.{◌≡◌, ◌<◌, length, refl, arith, length-append, rules}
 use Rattle.limits.specs.Choices.{bits}
-use Rattle.std.specs.Fmt.{signed_decimal}
-use Rattle.listings.specs.Listings.{goal_line, fit_line, fit_lines, best_text, nothing_text, fault_text, contents, fitted}
+use Rattle.listings.specs.Listings.{goal_line, best_text, contents, fitted}
 use Rattle.listings.proofs.write_best.Goals as goal
 use Rattle.numbers.proofs.Chains.{chain}
 use Rattle.listings.proofs.Texts.{chosen, from_start}

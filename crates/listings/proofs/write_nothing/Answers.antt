@@ -1,7 +1,5 @@
-use Rattle.std.proofs.Common.{◌≡◌, ℕ, ◌+◌, ◌-◌, ◌/◌, ◌%◌, ◌^◌, ◌<◌, ◌≤◌, List, [], ◌∷◌, ◌++◌, length, get_or, drop, codes, decimal, sym, refl, ap, ◌∙◌, append_assoc, arith, length-append, rules}
-use lib.Seq.{sets}
-use Rattle.std.specs.Fmt.{signed_decimal}
-use Rattle.listings.specs.Listings.{goal_line, fit_line, fit_lines, best_text, nothing_text, fault_text, contents}
+use Rattle.std.proofs.Common.{arith}
+use Rattle.listings.specs.Listings.{nothing_text}
 use Rattle.listings.proofs.write_nothing.Goals as goal
 use Rattle.listings.proofs.Texts.{from_start}
 

@@ -1,4 +1,4 @@
-use Rattle.std.proofs.Common.{◌≡◌, Some, ap, ◌∙◌, sym}
+use Rattle.std.proofs.Common.{Some, ap, ◌∙◌, sym}
 use Rattle.memories.specs.Held.{pair}
 use Rattle.memories.proofs.Same.{same_question}
 use Rattle.memories.proofs.kept.Goals as goal

@@ -1,4 +1,4 @@
-use Rattle.std.proofs.Common.{◌≡◌, ◌+◌, ◌-◌, sym, refl, ap, ◌∙◌, arith, rules}
+use Rattle.std.proofs.Common.{◌+◌, ◌-◌, sym, ◌∙◌, arith, rules}
 use Rattle.numbers.proofs.Writes.{length_more, length_last, length_some, sets_more, sets_last}
 use Rattle.numbers.proofs.put_number.Goals as goal
 

@@ -1,4 +1,4 @@
-use Rattle.std.proofs.Common.{◌≡◌, ◌+◌, ◌-◌, ◌<◌, ◌≤◌, ◌⊎◌, length}
+use Rattle.std.proofs.Common.{◌≡◌, ◌+◌, ◌-◌, ◌<◌, ◌⊎◌, length}
 use lib.Seq.{sets}
 use Rattle.numbers.specs.Numbers.{groups, encode}
 use Rattle.numbers.proofs.put_number.Given as goal

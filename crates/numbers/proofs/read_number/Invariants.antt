@@ -1,4 +1,4 @@
-use Rattle.std.proofs.Common.{◌≡◌, ◌+◌, ◌-◌, ◌*◌, ◌<◌, ◌≤◌, eqb, ◌⊎◌, length, drop}
+use Rattle.std.proofs.Common.{◌≡◌, ◌+◌, ◌-◌, ◌<◌, ◌≤◌, eqb, ◌⊎◌, length, drop}
 use Rattle.numbers.specs.Numbers.{decode, carry, rest_of_number}
 use Rattle.numbers.proofs.read_number.Given as goal
 

@@ -1,4 +1,4 @@
-use Rattle.std.proofs.Common.{◌≡◌, sym, refl, ap, ◌∙◌, arith}
+use Rattle.std.proofs.Common.{sym, ◌∙◌, arith}
 use Rattle.fields.proofs.Names.{among_here, among_more, among_none}
 use Rattle.fields.proofs.naming.is_among.Goals as goal
 

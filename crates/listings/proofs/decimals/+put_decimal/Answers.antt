@@ -1,6 +1,4 @@
-use Rattle.std.proofs.Common.{◌≡◌, ℕ, ◌+◌, ◌-◌, ◌/◌, ◌%◌, ◌^◌, ◌<◌, ◌≤◌, List, [], ◌∷◌, ◌++◌, length, get_or, drop, decimal, sym, refl, ap, ◌∙◌, arith, rules}
-use lib.Seq.{sets}
-use Rattle.std.specs.Fmt.{signed_decimal}
+use Rattle.std.proofs.Common.{arith, rules}
 use Rattle.listings.proofs.decimals.+put_decimal.Goals as goal
 use Rattle.listings.proofs.Texts.{one_digit, digit_more, puts_digit, puts_digits}
 

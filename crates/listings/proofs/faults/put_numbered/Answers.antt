@@ -1,7 +1,4 @@
-use Rattle.std.proofs.Common.{◌≡◌, ℕ, ◌+◌, ◌-◌, ◌/◌, ◌%◌, ◌^◌, ◌<◌, ◌≤◌, List, [], ◌∷◌, ◌++◌, length, get_or, drop, codes, decimal, sym, refl, ap, ◌∙◌, append_assoc, arith, length-append, rules}
-use lib.Seq.{sets}
-use Rattle.std.specs.Fmt.{signed_decimal}
-use Rattle.listings.specs.Listings.{goal_line, fit_line, fit_lines, best_text, nothing_text, fault_text, contents}
+use Rattle.std.proofs.Common.{decimal, arith}
 use Rattle.listings.proofs.faults.put_numbered.Goals as goal
 use Rattle.numbers.proofs.Chains.{chain}
 

@@ -1,7 +1,6 @@
-use Rattle.std.proofs.Common.{◌≡◌, ℕ, ◌+◌, ◌-◌, ◌/◌, ◌%◌, ◌^◌, ◌<◌, ◌≤◌, List, [], ◌∷◌, ◌++◌, length, get_or, drop, codes, decimal, sym, refl, ap, ◌∙◌, append_assoc, arith, length-append, rules}
+use Rattle.std.proofs.Common.{[], ◌∷◌, ◌++◌, codes, decimal, refl, ap, ◌∙◌, arith, length-append}
 use lib.Seq.{sets}
-use Rattle.std.specs.Fmt.{signed_decimal}
-use Rattle.listings.specs.Listings.{goal_line, fit_line, fit_lines, best_text, nothing_text, fault_text, contents}
+use Rattle.listings.specs.Listings.{fault_text}
 use Rattle.listings.proofs.faults.write_numbers.Goals as goal
 use Rattle.numbers.proofs.Chains.{chain_5}
 use Rattle.listings.proofs.Texts.{from_start, fault_length, regrouped}

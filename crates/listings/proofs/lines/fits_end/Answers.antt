@@ -1,4 +1,4 @@
-use Rattle.std.proofs.Common.{◌≡◌, ℕ, ◌+◌, ◌/◌, ◌%◌, ◌<◌, length, get_or, drop, sym, refl, ap, ◌∙◌, arith, rules}
+use Rattle.std.proofs.Common.{◌+◌, ◌<◌, length, ap, arith, rules}
 use Rattle.listings.proofs.lines.fits_end.Goals as goal
 use Rattle.listings.proofs.lines.fits_end.Goals.{then-word-eq1+in_ok-end, else-word-eq1}
 use Rattle.listings.proofs.Texts.{chosen, chosen_length, chosen_out, chosen_none}

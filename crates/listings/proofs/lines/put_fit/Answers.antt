@@ -1,6 +1,4 @@
-use Rattle.std.proofs.Common.{◌≡◌, ℕ, ◌+◌, ◌-◌, ◌/◌, ◌%◌, ◌^◌, ◌<◌, ◌≤◌, List, [], ◌∷◌, ◌++◌, length, get_or, drop, codes, decimal, sym, refl, ap, ◌∙◌, arith, rules}
-use lib.Seq.{sets}
-use Rattle.std.specs.Fmt.{signed_decimal}
+use Rattle.std.proofs.Common.{[], ◌∷◌, codes, arith}
 use Rattle.listings.proofs.lines.put_fit.Goals as goal
 use Rattle.listings.proofs.Texts.{fit_length}
 use Rattle.numbers.proofs.Chains.{chain_3}

@@ -1,4 +1,4 @@
-use Rattle.std.proofs.Common.{◌≡◌, ℕ, ◌+◌, ◌/◌, ◌%◌, length, get_or, drop, sym, refl, ap, ◌∙◌, arith, rules}
+use Rattle.std.proofs.Common.{◌+◌, ◌/◌, length, get_or, drop, sym, ap, ◌∙◌, arith}
 use lib.Seq.{sets}
 use Rattle.listings.specs.Listings.{fit_line}
 use Rattle.listings.proofs.lines.put_fits.Goals as goal

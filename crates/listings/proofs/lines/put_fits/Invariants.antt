@@ -1,4 +1,4 @@
-use Rattle.std.proofs.Common.{◌≡◌, ◌+◌, ◌≤◌, length, drop}
+use Rattle.std.proofs.Common.{◌≡◌, ◌+◌, length, drop}
 use lib.Seq.{sets}
 use Rattle.listings.proofs.Texts.{chosen}
 use Rattle.listings.proofs.lines.put_fits.Given as goal

@@ -1,7 +1,6 @@
-use Rattle.std.proofs.Common.{◌≡◌, ℕ, ◌+◌, ◌-◌, ◌/◌, ◌%◌, ◌^◌, ◌<◌, ◌≤◌, List, [], ◌∷◌, ◌++◌, length, get_or, drop, codes, decimal, sym, refl, ap, ◌∙◌, append_assoc, arith, length-append, rules}
+use Rattle.std.proofs.Common.{◌≡◌, ◌+◌, [], ◌∷◌, length, codes, arith, rules}
 use lib.Seq.{sets}
 use Rattle.std.specs.Fmt.{signed_decimal}
-use Rattle.listings.specs.Listings.{goal_line, fit_line, fit_lines, best_text, nothing_text, fault_text, contents}
 use Rattle.listings.proofs.lines.put_mass.Goals as goal
 use Rattle.listings.proofs.Texts.{mass_length}
 use Rattle.numbers.proofs.Chains.{chain_3}

@@ -1,4 +1,4 @@
-use Rattle.std.proofs.Common.{◌≡◌, ◌≤◌, nat_abs, sym, ap, subst, arith, w32, to_z, of_z, rules}
+use Rattle.std.proofs.Common.{◌≤◌, nat_abs, arith, w32, to_z, of_z, rules}
 use Rattle.std.proofs.lemmas.Int.{ints}
 use Rattle.limits.proofs.Coefficients.{set_small}
 use Rattle.limits.proofs.drafts.Draft.term.Goals as goal
