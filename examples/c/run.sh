@@ -2,7 +2,8 @@
 # Builds the library for C, links the example program with gcc, and lists the example sheet.
 set -eu
 cd "$(dirname "$0")/../.."
-rt staticlib set_chooser
+(cd crates/set_chooser_c && rt lib)
 mkdir -p target/c
-gcc -O2 -Wall -Wextra -Iinclude -o target/c/list examples/c/list.c target/staticlib/libset_chooser.a
+cp crates/set_chooser_c/out/libset_chooser_c.a target/c/libset_chooser.a
+gcc -O2 -Wall -Wextra -Iinclude -o target/c/list examples/c/list.c target/c/libset_chooser.a
 target/c/list < crates/setlist/stdin

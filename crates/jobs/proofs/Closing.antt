@@ -1,5 +1,5 @@
 -- What a close leaves and replies, from what its steps did.
-use Rattle.std.proofs.Common.{◌≡◌, ℕ, ◌+◌, ◌<◌, ◌≤◌, cond, List, [], ◌∷◌, ◌++◌, length, get_or, set, ℤ, pos, nat_abs, Option, sym, refl, ap, ◌∙◌, subst, arith}
+use Rattle.std.proofs.Common.{◌≡◌, ℕ, ◌+◌, ◌<◌, ◌≤◌, cond, List, [], ◌∷◌, ◌++◌, length, get_or, set, pos, nat_abs, Option, sym, ap, ◌∙◌, subst, arith}
 use mathlib.Core.Logic.{∥∥₁_elim}
 use native.Mathlib.Bridge.{le_prop}
 use Rattle.std.proofs.lemmas.Bool.{le-leb, lt-leb}
@@ -10,13 +10,13 @@ use Rattle.diagrams.specs.Needs.{needs}
 use Rattle.tables.specs.declared.NodeTable.{NodeTable}
 use Rattle.tables.specs.Chains.{made, room, Fits}
 use Rattle.tables.proofs.Tables.{made_length}
-use Rattle.walks.specs.Extended.{Begins, SoundTable, Extended, Refused}
+use Rattle.walks.specs.Extended.{Begins, Extended, Refused}
 use Rattle.jobs.specs.Books.{Held, Books, limits_of, product_of}
-use Rattle.jobs.specs.Calls.{Standing, standing, tested, closed, if_done, after_close}
+use Rattle.jobs.specs.Calls.{standing, tested, closed, if_done, after_close}
 use Rattle.jobs.specs.declared.ledger.Record.{Record}
 use Rattle.jobs.proofs.Grown.{more_held, refused_needs}
 use Rattle.jobs.proofs.Kept.{top_held, more_needs, more_books, more_limits, limits_length, closed_refused, closed_rest, passed}
-use Rattle.jobs.proofs.Ready.{begins, table_ready}
+use Rattle.jobs.proofs.Ready.{begins}
 
 -- a reply settles what stands
 pub stands_by : (room parts : ℕ) (ls : List Limit) (named : Option ℕ) (l : Limit) (r : Reply) → r ≡ closed room (standing parts ls) named l → if_done r (standing parts (ls ++ (l ∷ []))) (standing parts ls) ≡ after_close room (standing parts ls) named l

@@ -1,5 +1,5 @@
 -- From what the walk does with one limit's three functions to what a job's table holds.
-use Rattle.std.proofs.Common.{◌≡◌, ℕ, zero, suc, ◌+◌, ◌-◌, ◌<◌, ◌≤◌, Bool, true, false, cond, not, ◌&&◌, ◌⊎◌, List, [], ◌∷◌, ◌++◌, length, replicate, ℤ, pos, ◌+ℤ◌, ◌-ℤ◌, ◌*ℤ◌, Some, sym, refl, ap, ◌∙◌, subst, ap₂, inl, inr, ⊎_elim, append-nil, add-zero, zero-add, arith}
+use Rattle.std.proofs.Common.{◌≡◌, ℕ, zero, suc, ◌+◌, ◌-◌, ◌<◌, Bool, true, false, cond, not, ◌&&◌, List, [], ◌∷◌, ◌++◌, length, replicate, ℤ, pos, ◌+ℤ◌, ◌-ℤ◌, ◌*ℤ◌, Some, sym, refl, ap, ◌∙◌, subst, ap₂, inl, inr, ⊎_elim, append-nil, add-zero, zero-add, arith}
 use lib.ListN.{length-replicate}
 use Rattle.std.specs.List.{slice_get}
 use Rattle.std.proofs.lemmas.Bool.{cases_lt}
@@ -9,10 +9,9 @@ use Rattle.diagrams.specs.declared.Node.{Node}
 use Rattle.diagrams.specs.declared.Edge.{Edge}
 use Rattle.diagrams.specs.declared.Child.{Child}
 use Rattle.diagrams.specs.declared.Child.TheVariants.{Terminal, Place}
-use Rattle.diagrams.specs.Needs.{table, less, depends, needed, needed_all, built, needs, once, indicator, same_table}
+use Rattle.diagrams.specs.Needs.{table, less, depends, needed, needed_all, built, needs, indicator, same_table}
 use Rattle.diagrams.specs.Nodes.{value, From, Under}
-use Rattle.diagrams.specs.Held.{In, node_table, Holds}
-use Rattle.diagrams.specs.Apply.{Grown}
+use Rattle.diagrams.specs.Held.{In, node_table}
 use Rattle.diagrams.proofs.Tables.{table_ext, in_left, in_right, in_either}
 use Rattle.diagrams.proofs.Grow.{nth_grown, value_grown}
 use Rattle.diagrams.proofs.Needed.{product_from, built_more, needed_more, once_less}

@@ -1,5 +1,5 @@
 -- What the walk and a solve need of a job's books. The books are known to be kept, not how; so what is taken from them has one proof.
-use Rattle.std.proofs.Common.{◌≡◌, ℕ, suc, ◌+◌, ◌-◌, ◌^◌, ◌<◌, ◌≤◌, Bool, true, false, ◌&&◌, leb, ◌⊎◌, List, [], ◌∷◌, map, length, get_or, take, ℤ, pos, ◌+ℤ◌, nat_abs, Some, None, Option, sym, refl, ap, ◌∙◌, subst, inl, inr, arith}
+use Rattle.std.proofs.Common.{◌≡◌, ℕ, suc, ◌^◌, ◌<◌, ◌≤◌, Bool, true, false, ◌&&◌, leb, List, [], ◌∷◌, length, get_or, pos, nat_abs, Some, None, Option, sym, refl, ap, ◌∙◌, subst, inl, inr, arith}
 use mathlib.Core.Logic.{∥∥₁_elim}
 use mathlib.Core.HLevel.{Π_prop, ×_prop, Unit-prop}
 use native.Mathlib.Nat.{ℕ_set}
@@ -18,12 +18,12 @@ use Rattle.diagrams.specs.declared.Child.{Child}
 use Rattle.diagrams.specs.declared.Child.TheVariants.{Terminal, Place}
 use Rattle.diagrams.specs.Apply.{Bit}
 use Rattle.diagrams.specs.Needs.{indicator, same}
-use Rattle.diagrams.specs.Nodes.{value, From, Sound, Ordered, Under}
+use Rattle.diagrams.specs.Nodes.{From, Sound, Ordered, Under}
 use Rattle.tables.specs.declared.NodeTable.{NodeTable}
 use Rattle.tables.specs.Chains.{made, Fits, Chains}
 use Rattle.walks.specs.Extended.{Begins, SoundTable}
 use Rattle.rows.specs.Ones.{BitsOf, ones_of}
-use Rattle.rows.specs.Bests.{Weighed, Ready}
+use Rattle.rows.specs.Bests.{Ready}
 use Rattle.solving.specs.Settling.{Solved}
 use Rattle.solving.specs.declared.Answer.{Answer}
 use Rattle.jobs.specs.Books.{Denotes, Held, limits_of, product_of, Books}

@@ -5,7 +5,7 @@ ghost use Rattle.limits.specs.Limits.{keeps_all};
 ghost use Rattle.limits.specs.Refusals.{told};
 ghost use Rattle.diagrams.specs.Needs.{needs};
 ghost use Rattle.solving.specs.Settling.{Solved};
-ghost use Rattle.jobs.specs.Calls.{standing, tested as tests-of, begun, after_begin, closed, after_close, taken_back, after_take_back, asked, checkable, broken};
+ghost use Rattle.jobs.specs.Calls.{standing, tested as tests_of, begun, after_begin, closed, after_close, taken_back, after_take_back, asked, checkable, broken};
 ghost use Rattle.jobs.specs.Stands.{stands, places, limit_from};
 
 use crate::Job;
@@ -22,7 +22,7 @@ use walks::extend;
 
 // Close's tests before its nodes are made.
 fn tested(parts: u8, count: usize, named: Option<u8>, limit: &Limit) -> Result<(), Refusal>
-    ensures { told result ≡ tests-of parts count named limit.now.bound }
+    ensures { told result ≡ tests_of parts count named limit.now.bound }
 {
     if limit.bound < -100_000_000 || limit.bound > 100_000_000 {
         return Err(Refusal::OutOfRange);

@@ -12,5 +12,5 @@ word [] = 0
 word (fitted ∷ c) = cond fitted 1 0 + 2 * word c
 
 -- a word with no bit from n up is the word of its choice, and a choice is the choice of its word
-abbrev pub Words-are-choices : Type 0
-Words-are-choices = ((n w : ℕ) → w < 2 ^ n → word (bits n w) ≡ w) × ((c : List Bool) → bits (length c) (word c) ≡ c)
+abbrev pub WordsAreChoices : Type 0
+WordsAreChoices = ((n w : ℕ) → w < 2 ^ n → word (bits n w) ≡ w) × ((c : List Bool) → bits (length c) (word c) ≡ c)

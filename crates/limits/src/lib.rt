@@ -2,7 +2,7 @@
 #![tactic(auto)]
 
 ghost use Rattle.std.specs.Prelude.{◌≡◌};
-ghost use Rattle.limits.specs.Choices.{Words-are-choices};
+ghost use Rattle.limits.specs.Choices.{WordsAreChoices};
 ghost use Rattle.limits.specs.Refusals.{number};
 
 pub mod drafts;
@@ -59,5 +59,5 @@ impl Refusal {
 
 /// Words and choices stand for each other.
 pub fn words_are_choices()
-    ensures { Words-are-choices }
+    ensures { WordsAreChoices }
 {}

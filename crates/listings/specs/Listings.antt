@@ -9,7 +9,7 @@ use Rattle.listings.specs.declared.Grade.TheVariants.{Mass, Wait, MassPrice}
 abbrev pub goal_line : Grade → List ℕ
 goal_line (Mass m) = codes "goal mass " ++ (signed_decimal m ++ (10 ∷ []))
 goal_line (Wait d) = codes "goal wait " ++ (decimal d ++ (10 ∷ []))
-goal_line (MassPrice m p) = codes "goal mass_price " ++ (signed_decimal m ++ (32 ∷ (decimal p ++ (10 ∷ []))))
+goal_line (MassPrice m p) = codes "goal mass-price " ++ (signed_decimal m ++ (32 ∷ (decimal p ++ (10 ∷ []))))
 
 -- a fitted part's name
 abbrev pub fit_line : List ℕ → List ℕ

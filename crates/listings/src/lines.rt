@@ -101,7 +101,7 @@ fn put_mass_price(out: &mut [u8], at: usize, m: i32, p: u64) -> usize
     requires { at + length (goal_line (Grade.MassPrice m p)) ≤ length out.old }
     ensures { (result ≡ at + length (goal_line (Grade.MassPrice m p))) × (out.new ≡ sets out.old at (goal_line (Grade.MassPrice m p))) }
 {
-    let next = put_bytes(out, at, b"goal mass_price ");
+    let next = put_bytes(out, at, b"goal mass-price ");
     let next = put_signed(out, next, m);
     let next = put_bytes(out, next, b" ");
     let next = put_decimal(out, next, p);

@@ -1,26 +1,24 @@
 -- Why the answers of a log are right.
-use Rattle.std.proofs.Common.{◌≡◌, ℕ, ◌<◌, Bool, true, false, cond, ◌&&◌, ltb, leb, ◌↔◌, List, [], ◌∷◌, ◌++◌, map, length, ℤ, nat_abs, Some, None, Option, sym, refl, ap, ◌∙◌, subst, ap₂, arith, Bor}
+use Rattle.std.proofs.Common.{◌≡◌, ℕ, ◌<◌, Bool, true, false, cond, ltb, leb, List, [], ◌∷◌, ◌++◌, map, length, ℤ, nat_abs, Some, None, Option, sym, refl, ap, ◌∙◌, subst, ap₂, arith, Bor}
 use Rattle.std.proofs.lemmas.Bool.{and_parts, leb-false, lt-ltb, lt-leb}
 use Rattle.limits.specs.declared.Limit.{Limit}
-use Rattle.limits.specs.declared.Refusal.{Refusal}
 use Rattle.limits.specs.declared.drafts.Term.{Term}
 use Rattle.limits.specs.declared.drafts.Side.{Side}
 use Rattle.limits.specs.Limits.{keeps_all}
 use Rattle.limits.specs.Refusals.{done, refused, number}
 use Rattle.limits.specs.Refusals as refusals
 use Rattle.grades.specs.Laws.{Kind, Laws}
-use Rattle.grades.specs.Rule.{best, chosen, answer}
+use Rattle.grades.specs.Rule.{best, chosen}
 use Rattle.grades.specs.Optimal.{Answers, Settled}
 use Rattle.grades.proofs.Optimal.{rule_is_first_lem, rule_settles_lem}
 use Rattle.diagrams.specs.Needs.{needs}
 use Rattle.solving.specs.Settling.{Solved}
 use Rattle.solving.specs.declared.Answer.{Answer}
-use Rattle.jobs.specs.Calls.{Standing, closed, tested, and_then, named_below, asked}
-use Rattle.logs.specs.Drafted.{named, limit_of, sound}
+use Rattle.jobs.specs.Calls.{Standing, closed, tested, and_then, named_below}
+use Rattle.logs.specs.Drafted.{named, limit_of}
 use Rattle.logs.specs.Logs.{Says, RefusedForPlaces, Finds, Lent, SolveRight, SolvedRight, by_mass, by_wait}
 use Rattle.logs.specs.declared.Weights.{Weights}
 use Rattle.logs.specs.declared.Weights.TheVariants as weights
-use Rattle.logs.specs.declared.Found.TheVariants as found
 use Rattle.grades.specs.declared.Mass.{Mass}
 use Rattle.grades.specs.declared.Wait.{Wait}
 use Rattle.grades.specs.Kinds.{mass_kind, wait_kind}

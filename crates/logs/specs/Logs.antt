@@ -1,5 +1,5 @@
 -- A log of the calls made of one job since it was new, with the answer to each, and when it is right.
-use Rattle.std.specs.Prelude.{◌≡◌, ℕ, ◌<◌, ◌≤◌, Bool, true, ◌↔◌, List, [], ◌∷◌, ◌++◌, map, length, take, drop, ℤ, Some, None, Option, Result, MatchResult}
+use Rattle.std.specs.Prelude.{◌≡◌, ℕ, ◌<◌, Bool, true, ◌↔◌, List, [], ◌∷◌, ◌++◌, map, length, take, drop, ℤ, Some, None, Option, Result, MatchResult}
 use Rattle.limits.specs.declared.Limit.{Limit}
 use Rattle.limits.specs.declared.drafts.Term.{Term}
 use Rattle.limits.specs.declared.drafts.Side.{Side}
@@ -8,7 +8,7 @@ use Rattle.limits.specs.Limits.{keeps_all}
 use Rattle.limits.specs.Refusals.{done, refused, number}
 use Rattle.limits.specs.Refusals as refusals
 use Rattle.grades.specs.Laws.{Kind}
-use Rattle.grades.specs.Kinds.{Priced, priced, mass_kind, wait_kind, mass_price_kind}
+use Rattle.grades.specs.Kinds.{priced, mass_kind, wait_kind, mass_price_kind}
 use Rattle.grades.specs.Rule.{grade}
 use Rattle.grades.specs.Optimal.{First, Settled, NonePasses}
 use Rattle.grades.specs.declared.Mass.{Mass}

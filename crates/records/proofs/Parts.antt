@@ -1,5 +1,5 @@
 -- a part and the names before it
-use Rattle.std.proofs.Common.{◌≡◌, ℕ, suc, ◌+◌, ◌<◌, ◌≤◌, ltb, List, [], ◌∷◌, ◌++◌, map, length, take, set, sym, refl, ap, ◌∙◌, add-one, take-suc-set, Bor, lt-ltb}
+use Rattle.std.proofs.Common.{◌≡◌, ℕ, ◌+◌, ◌<◌, ltb, List, [], ◌∷◌, ◌++◌, length, take, set, refl, ap, ◌∙◌, add-one, take-suc-set, Bor, lt-ltb}
 use Rattle.std.proofs.lemmas.Bool.{cond-true}
 use Rattle.fields.specs.Fields.{Answer, found, and_then, read_name}
 use Rattle.records.specs.Sheets.{Saying, read_named_part, read_part}

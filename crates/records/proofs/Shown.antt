@@ -6,7 +6,7 @@ use Rattle.limits.specs.declared.Sense.{Sense}
 use Rattle.limits.specs.declared.drafts.Term.{Term}
 use Rattle.numbers.specs.Numbers.{Reading, read, unread, decode, from_place, signed_reading}
 use Rattle.fields.specs.Fields.{Answer, found, fault, and_then, layered, number_at, signed_at, in_range, coefficient_at, read_term}
-use Rattle.records.specs.Sheets.{read_terms, read_limit, Saying, limit_says}
+use Rattle.records.specs.Sheets.{read_terms, read_limit, limit_says}
 use Rattle.records.specs.Meanings.{terms_in, terms_of, LeftIn, next_term}
 
 -- put terms in front of those that follow

@@ -1,20 +1,20 @@
 -- A verdict's text is the text of what the sheet comes to.
 use Rattle.std.proofs.Common.{◌≡◌, ℕ, suc, ◌≤◌, Bool, true, false, cond, List, [], ◌∷◌, ◌++◌, map, length, drop, Some, None, Option, sym, refl, ap, ◌∙◌, subst, ap₂, arith, length-append}
 use Rattle.std.proofs.lemmas.List.{length-map}
-use Rattle.limits.specs.Choices.{bits, word}
+use Rattle.limits.specs.Choices.{bits}
 use Rattle.limits.specs.Limits.{keeps_all}
-use Rattle.limits.specs.Refusals.{Reply, done, refused, number}
+use Rattle.limits.specs.Refusals.{Reply, done, refused}
 use Rattle.limits.proofs.Words.{bits_word}
 use Rattle.grades.specs.Laws.{Kind}
 use Rattle.grades.specs.Kinds.{mass_kind, wait_kind, mass_price_kind}
 use Rattle.grades.specs.Rule.{grade, best, chosen, answer, left_out, put_on}
 use Rattle.records.specs.declared.Goal.{Goal}
 use Rattle.records.specs.declared.Goal.TheVariants as goal
-use Rattle.jobs.specs.Calls.{Standing, standing, asked}
+use Rattle.jobs.specs.Calls.{Standing, standing}
 use Rattle.listings.specs.declared.Grade.{Grade}
 use Rattle.listings.specs.declared.Grade.TheVariants.{Mass, Wait}
-use Rattle.listings.specs.Listings.{best_text, nothing_text, fitted}
-use Rattle.sheets.specs.Told.{Part, Told, masses_of, waits_of, costs_of, Reading, whole, read_sheet}
+use Rattle.listings.specs.Listings.{best_text, fitted}
+use Rattle.sheets.specs.Told.{Told, masses_of, waits_of, costs_of, whole, read_sheet}
 use Rattle.set_chooser.specs.Listing as said
 use Rattle.set_chooser.specs.Listing.{Outcome, fault_at, nothing, by_kind, by_goal, shown_price, concluded, text, listing}
 use Rattle.set_chooser.specs.Verdicts.{Judged, JudgedFor, verdict_text}

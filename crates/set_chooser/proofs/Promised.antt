@@ -1,11 +1,11 @@
 -- Why the listing of every sheet is right.
-use Rattle.std.proofs.Common.{◌≡◌, ℕ, Bool, ◌↔◌, List, get_or, Some, None, Option, sym, refl, ap, ◌∙◌, subst, arith}
+use Rattle.std.proofs.Common.{◌≡◌, ℕ, Bool, List, get_or, Some, None, Option, refl, ap, arith}
 use Rattle.limits.specs.Limits.{keeps_all}
 use Rattle.limits.specs.Refusals.{Reply, done, refused}
 use Rattle.grades.specs.Laws.{Kind, Laws}
 use Rattle.grades.specs.Kinds.{mass_kind, wait_kind, mass_price_kind}
-use Rattle.grades.specs.Rule.{grade, best as best-grade, chosen, answer}
-use Rattle.grades.specs.Optimal.{First, Settled, NonePasses, Answers}
+use Rattle.grades.specs.Rule.{grade, best as best-grade, chosen}
+use Rattle.grades.specs.Optimal.{Answers}
 use Rattle.grades.proofs.Optimal.{rule_is_first_lem, rule_settles_lem}
 use Rattle.grades.specs.Lawful.{mass_laws, wait_laws, mass_price_laws}
 use Rattle.records.specs.declared.Goal.{Goal}
@@ -13,11 +13,11 @@ use Rattle.records.specs.declared.Goal.TheVariants as goal
 use Rattle.jobs.specs.Calls.{standing, asked}
 use Rattle.listings.specs.declared.Grade.{Grade}
 use Rattle.listings.specs.declared.Grade.TheVariants.{Mass, Wait, MassPrice}
-use Rattle.listings.specs.Listings.{best_text, nothing_text, fault_text, fitted}
+use Rattle.listings.specs.Listings.{best_text, nothing_text, fitted}
 use Rattle.sheets.specs.Told.{Told, masses_of, waits_of, costs_of, Reading, whole, faulty, read_sheet}
 use Rattle.sheets.specs.Says.{Says}
 use Rattle.sheets.proofs.Saying.{read_as_it_says}
-use Rattle.set_chooser.specs.Listing.{Outcome, fault_at, nothing, best, by_kind, by_goal, shown_price, concluded, text, listing}
+use Rattle.set_chooser.specs.Listing.{Outcome, fault_at, nothing, best, by_goal, shown_price, concluded, text}
 use Rattle.set_chooser.specs.Promise.{FaultLine, TellsBy, TellsFor, RightListing, ListingsRight}
 
 -- a grade's line begins with another letter than the line that nothing fits

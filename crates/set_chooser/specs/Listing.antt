@@ -1,5 +1,5 @@
 -- What a sheet's listing says. Each definition here can be computed.
-use Rattle.std.specs.Prelude.{◌≡◌, ℕ, ◌<◌, ◌≤◌, Bool, ◌⊎◌, List, ◌++◌, length, drop, ℤ, pos, negsuc, Some, None, Result, MatchResult}
+use Rattle.std.specs.Prelude.{◌≡◌, ℕ, ◌<◌, ◌≤◌, ◌⊎◌, List, ◌++◌, length, drop, ℤ, pos, negsuc, Some, None, Result, MatchResult}
 use Rattle.limits.specs.Limits.{keeps_all}
 use Rattle.limits.specs.Refusals.{done, refused}
 use Rattle.grades.specs.Laws.{Kind}

@@ -8,7 +8,7 @@ use Rattle.grades.specs.Optimal.{First, Settled, NonePasses}
 use Rattle.records.specs.declared.Goal.{Goal}
 use Rattle.records.specs.declared.Goal.TheVariants as goal
 use Rattle.listings.specs.declared.Grade.{Grade}
-use Rattle.listings.specs.declared.Grade.TheVariants.{Mass, Wait, MassPrice}
+use Rattle.listings.specs.declared.Grade.TheVariants.{Mass, Wait}
 use Rattle.listings.specs.Listings.{best_text, nothing_text, fault_text, fitted}
 use Rattle.sheets.specs.Told.{Told, masses_of, waits_of, costs_of}
 use Rattle.sheets.specs.Says.{Says}

@@ -10,7 +10,7 @@ use Rattle.records.specs.declared.Goal.{Goal}
 use Rattle.records.specs.declared.Goal.TheVariants as goal
 use Rattle.jobs.specs.Calls.{Standing, asked}
 use Rattle.listings.specs.declared.Grade.{Grade}
-use Rattle.listings.specs.declared.Grade.TheVariants.{Mass, Wait, MassPrice}
+use Rattle.listings.specs.declared.Grade.TheVariants.{Mass, Wait}
 use Rattle.listings.specs.Listings.{best_text, nothing_text, fault_text, fitted}
 use Rattle.sheets.specs.Told.{Part, masses_of, waits_of, costs_of}
 use Rattle.set_chooser.specs.Listing.{shown_price}

@@ -1,4 +1,4 @@
-//! The entry for C.
+//! A sheet's listing with memory of its own: what the entry for C calls.
 ghost use Rattle.set_chooser.specs.Listing.{ListsForC, listing_for_c};
 ghost use Rattle.set_chooser.specs.Promise.{RightListing};
 
@@ -14,9 +14,8 @@ const NODES: usize = 1024;
 // The slots of its remembering table.
 const SLOTS: usize = 4096;
 
-/// Lists a sheet for C: the bytes written, or -13 where the output is too short, which is then untouched.
-#[unsafe(no_mangle)]
-pub extern "C" fn set_chooser_list(sheet: &[u8], out: &mut [u8]) -> i64
+/// Lists a sheet as C wants it: the bytes written, or -13 where the output is too short, which is then untouched.
+pub fn set_chooser_list(sheet: &[u8], out: &mut [u8]) -> i64
     ensures lists { ListsForC (listing_for_c sheet.now) out.old out.new result }
     ensures right { RightListing sheet.now (listing_for_c sheet.now) }
 {

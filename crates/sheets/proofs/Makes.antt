@@ -1,14 +1,14 @@
 -- Terms make a draft; a part is pushed.
-use Rattle.std.proofs.Common.{◌≡◌, ℕ, zero, suc, ◌+◌, ◌-◌, ◌<◌, ◌≤◌, Bool, true, false, cond, ltb, leb, List, [], ◌∷◌, ◌++◌, map, length, take, set, replicate, ℤ, pos, nat_abs, Some, None, Option, sym, refl, ap, ◌∙◌, subst, ap₂, add-one, arith, take-suc-set, lt-ltb, le-leb}
+use Rattle.std.proofs.Common.{◌≡◌, ℕ, ◌+◌, ◌<◌, ◌≤◌, true, cond, ltb, leb, List, [], ◌∷◌, ◌++◌, length, take, set, replicate, ℤ, pos, nat_abs, Some, None, Option, sym, refl, ap, ◌∙◌, subst, ap₂, add-one, arith, take-suc-set, lt-ltb, le-leb}
 use Rattle.std.proofs.lemmas.Bool.{leb-true}
-use Rattle.fields.specs.Fields.{Answer, found, fault, and_then, number_at, signed_at, in_range, read_term, coefficient_at}
+use Rattle.fields.specs.Fields.{found, fault, and_then, number_at, signed_at, in_range, read_term, coefficient_at}
 use Rattle.spelling.proofs.Sole.{then_from, cond_from}
 use Rattle.limits.specs.declared.drafts.Term.{Term}
-use Rattle.limits.specs.Refusals.{Reply, done, refused}
-use Rattle.limits.specs.Drafts.{rises, tested, coefficients_after, last_after}
+use Rattle.limits.specs.Refusals.{done, refused}
+use Rattle.limits.specs.Drafts.{tested, coefficients_after, last_after}
 use Rattle.records.specs.Meanings.{LeftIn}
-use Rattle.sheets.specs.Told.{Part, filled, highest}
-use Rattle.sheets.specs.Notes.{part_of, parts_from}
+use Rattle.sheets.specs.Told.{filled, highest}
+use Rattle.sheets.specs.Notes.{parts_from}
 
 -- the next term's part is at least `least`, one above the highest part named
 abbrev pub AfterLast : Option ℕ → ℕ → Type 0

@@ -1,11 +1,10 @@
 -- One record's step is the definition's.
-use Rattle.std.proofs.Common.{◌≡◌, ℕ, suc, ◌+◌, ◌<◌, ◌≤◌, Bool, true, false, cond, leb, List, [], ◌∷◌, ◌++◌, map, length, take, ℤ, pos, Some, None, Option, sym, refl, ap, ◌∙◌, subst, arith, length-append, le-leb}
-use lib.ListN.{length-map}
+use Rattle.std.proofs.Common.{◌≡◌, ℕ, suc, ◌+◌, ◌≤◌, cond, List, [], ◌∷◌, ◌++◌, length, take, ℤ, None, Option, sym, refl, ap, ◌∙◌, arith, length-append, le-leb}
 use Rattle.std.proofs.lemmas.List.{length-take-le}
 use Rattle.records.specs.declared.Stage.{Stage}
 use Rattle.records.specs.declared.Stage.TheVariants.{Parts, Limits}
-use Rattle.fields.specs.Fields.{Answer, found, fault}
-use Rattle.records.specs.Sheets.{Saying, part_says, limit_says, goal_says, end_says, read_record}
+use Rattle.fields.specs.Fields.{found}
+use Rattle.records.specs.Sheets.{part_says, limit_says, read_record}
 use Rattle.sheets.proofs.Stages.{part_in_parts}
 use Rattle.limits.specs.declared.Limit.{Limit}
 use Rattle.limits.specs.declared.Sense.{Sense}
@@ -13,11 +12,10 @@ use Rattle.limits.specs.declared.drafts.Term.{Term}
 use Rattle.limits.specs.Refusals.{Reply, done, refused}
 use Rattle.records.specs.declared.Goal.{Goal}
 use Rattle.jobs.specs.Calls.{Standing, standing, closed, after_close, if_done, after_begin}
-use Rattle.sheets.specs.Told.{Part, Told, Step, broken, ended, goes_on, on_reply, on_record, one_step, close_reply, after_record, highest, limit_of}
+use Rattle.sheets.specs.Told.{Part, Told, broken, goes_on, on_reply, on_record, one_step, after_record, highest, limit_of}
 use Rattle.sheets.specs.Notes.{parts_from, parts_of, NoneYet}
 use Rattle.sheets.specs.declared.Flaw.{Flaw}
 use Rattle.sheets.specs.declared.Notes.{Notes}
-use Rattle.sheets.specs.declared.Progress.{Progress}
 use Rattle.sheets.specs.declared.Progress.TheVariants.{GoesOn, Broken}
 
 abbrev pub tell : Stage → List (List ℕ) → List Part → List Limit → Goal → Told

@@ -1,13 +1,9 @@
 -- The loop over a sheet's records is the definition's recursion.
-use Rattle.std.proofs.Common.{◌≡◌, ℕ, zero, suc, ◌+◌, ◌-◌, ◌<◌, ◌≤◌, min, Bool, true, false, cond, leb, List, [], ◌∷◌, map, length, take, sym, refl, ap, ◌∙◌, subst, arith, le-leb}
+use Rattle.std.proofs.Common.{◌≡◌, ℕ, zero, suc, ◌+◌, ◌-◌, ◌<◌, ◌≤◌, min, Bool, true, false, cond, leb, List, [], length, sym, refl, ap, ◌∙◌, subst, arith, le-leb}
 use Rattle.std.proofs.lemmas.Bool.{cond-true, leb-true}
 use Rattle.records.specs.declared.Goal.TheVariants.{Mass}
-use Rattle.records.specs.declared.Stage.{Stage}
 use Rattle.records.specs.declared.Stage.TheVariants.{Parts}
-use Rattle.limits.specs.declared.Limit.{Limit}
-use Rattle.jobs.specs.Calls.{Standing, standing}
-use Rattle.sheets.specs.Told.{Told, untold, Part, Step, broken, ended, goes_on, one_step, Reading, whole, faulty, read_all, read_sheet}
-use Rattle.sheets.specs.Notes.{parts_of}
+use Rattle.sheets.specs.Told.{Told, untold, Step, broken, ended, goes_on, one_step, Reading, whole, faulty, read_all, read_sheet}
 
 -- from here on, reading comes to `total`
 abbrev pub Rest : ℕ → List ℕ → ℕ → Told → ℕ → Reading → Type 0

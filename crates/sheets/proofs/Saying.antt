@@ -1,5 +1,5 @@
 -- What is read of a sheet is what it says.
-use Rattle.std.proofs.Common.{◌≡◌, ℕ, zero, suc, ◌+◌, ◌<◌, min, Bool, true, false, cond, leb, List, [], ◌∷◌, ◌++◌, length, drop, sym, refl, ap, ◌∙◌, subst, append-nil, arith}
+use Rattle.std.proofs.Common.{◌≡◌, ℕ, zero, suc, ◌<◌, min, Bool, true, false, cond, leb, List, [], ◌∷◌, ◌++◌, length, drop, sym, refl, ap, ◌∙◌, subst, append-nil, arith}
 use Rattle.std.proofs.lemmas.List.{drop_all}
 use Rattle.limits.specs.declared.Sense.{Sense}
 use Rattle.limits.specs.declared.Sense.TheVariants.{AtMost, AtLeast}
@@ -9,8 +9,8 @@ use Rattle.fields.specs.Fields.{Answer, found, fault}
 use Rattle.records.specs.Sheets.{Saying, part_says, limit_says, goal_says, end_says, read_record}
 use Rattle.spelling.specs.Spelling.{kind_of, sense_kind, spelled}
 use Rattle.spelling.proofs.Sole.{record_sole, end_is_last}
-use Rattle.sheets.specs.Told.{Told, untold, after_record, Step, broken, ended, goes_on, on_reply, on_record, close_reply, Reading, whole, faulty, read_all, read_sheet}
-use Rattle.sheets.specs.Says.{Reads, Says, spelled_all, SaysOneThing, ReadAsItSays, SpelledByItsRecords}
+use Rattle.sheets.specs.Told.{Told, untold, after_record, Step, broken, ended, goes_on, on_reply, on_record, close_reply, Reading, whole, faulty, read_all}
+use Rattle.sheets.specs.Says.{Reads, spelled_all, SaysOneThing, ReadAsItSays, SpelledByItsRecords}
 
 not_whole : {C : Type 0} (n l i p : ℕ) (u : Told) → faulty n l i p ≡ whole u → C
 not_whole n l i p u e = let z : ◌≡◌ {A = ℕ} 0 1 = cc in absurd (omega arith)

@@ -1,11 +1,11 @@
 -- A part is read while only parts have come.
-use Rattle.std.proofs.Common.{◌≡◌, ℕ, ◌+◌, ◌-◌, Bool, true, false, cond, not, ◌&&◌, eqb, leb, List, [], length, take, ℤ, sym, refl, ap, ◌∙◌, arith}
+use Rattle.std.proofs.Common.{◌≡◌, ℕ, ◌+◌, ◌-◌, Bool, true, false, cond, eqb, leb, List, length, take, ℤ, sym, refl, ap, ◌∙◌, arith}
 use Rattle.std.proofs.lemmas.Bool.{eqb-true}
 use Rattle.limits.specs.declared.Sense.{Sense}
-use Rattle.fields.specs.Fields.{Answer, found, fault, and_then, number_at, signed_at}
+use Rattle.fields.specs.Fields.{found, fault, and_then, number_at, signed_at}
 use Rattle.records.specs.declared.Stage.{Stage}
 use Rattle.records.specs.declared.Stage.TheVariants.{Parts, Limits, End}
-use Rattle.records.specs.Sheets.{Saying, part_says, limit_says, goal_says, end_says, ended, read_part, read_limit, read_goal, read_payload, read_record, read_terms, allowed, sense_of}
+use Rattle.records.specs.Sheets.{Saying, part_says, limit_says, goal_says, end_says, ended, read_part, read_limit, read_goal, read_record, read_terms, allowed, sense_of}
 use Rattle.records.specs.Codes.{goal_of}
 use Rattle.spelling.proofs.Sole.{then_from, cond_from, head}
 

@@ -1,7 +1,7 @@
 -- The noted weights agree.
-use Rattle.std.proofs.Common.{◌≡◌, ℕ, zero, suc, List, [], ◌∷◌, map, length, get_or, take, set, replicate, ℤ, pos, sym, refl, ap, ◌∙◌, ap₂, arith}
+use Rattle.std.proofs.Common.{◌≡◌, ℕ, zero, suc, List, [], ◌∷◌, map, length, get_or, take, set, replicate, ℤ, pos, sym, refl, ap, ap₂, arith}
 use Rattle.grades.specs.Kinds.{priced}
-use Rattle.sheets.specs.Told.{Part, masses_of, waits_of, costs_of}
+use Rattle.sheets.specs.Told.{masses_of, waits_of, costs_of}
 use Rattle.sheets.specs.Notes.{parts_from}
 
 -- the masses are those that stand with the prices

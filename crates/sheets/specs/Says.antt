@@ -4,7 +4,7 @@ use Rattle.numbers.specs.Laws.{Bytes}
 use Rattle.fields.specs.Fields.{found}
 use Rattle.records.specs.Sheets.{Saying, end_says, read_record}
 use Rattle.spelling.specs.Spelling.{kind_of, spelled}
-use Rattle.sheets.specs.Told.{Told, untold, after_record, Reading, whole, read_sheet}
+use Rattle.sheets.specs.Told.{Told, untold, after_record, whole, read_sheet}
 
 -- where t is said before a place, these records stand from that place on, one after another, and then the end; and u is said by all
 abbrev pub Reads : List ℕ → Told → ℕ → List Saying → Told → Type 0

@@ -1,5 +1,5 @@
 -- What a sheet says. Each definition here can be computed.
-use Rattle.std.specs.Prelude.{ℕ, zero, suc, min, Bool, cond, List, [], ◌∷◌, ◌++◌, map, length, replicate, ℤ, pos, Some, None, Option, nat_le, slice_set}
+use Rattle.std.specs.Prelude.{ℕ, zero, suc, min, cond, List, [], ◌∷◌, ◌++◌, map, length, replicate, ℤ, pos, Some, None, Option, nat_le, slice_set}
 use Rattle.limits.specs.declared.Limit.{Limit}
 use Rattle.limits.specs.declared.Sense.{Sense}
 use Rattle.limits.specs.declared.drafts.Term.{Term}

@@ -1,9 +1,9 @@
 -- The choice as a word, read off from part 0 up, and what a solve answers by it.
-use Rattle.std.proofs.Common.{◌≡◌, ℕ, ◌+◌, ◌*◌, ◌^◌, ◌<◌, ◌≤◌, Bool, true, false, cond, List, [], ◌∷◌, length, drop, ℤ, Some, None, Option, sym, refl, ap, ◌∙◌, subst, ap₂, mul_assoc, mul-add, arith, pow_mono, pow-add}
+use Rattle.std.proofs.Common.{◌≡◌, ℕ, ◌+◌, ◌*◌, ◌^◌, ◌<◌, ◌≤◌, Bool, true, false, cond, List, [], ◌∷◌, length, drop, ℤ, Some, None, Option, sym, ap, ◌∙◌, subst, ap₂, mul_assoc, mul-add, arith, pow_mono, pow-add}
 use Rattle.std.proofs.lemmas.List.{drop_all}
 use Rattle.limits.specs.Choices.{word}
 use Rattle.grades.specs.Laws.{Kind, Laws}
-use Rattle.grades.specs.Rule.{best, chosen, answer, grade}
+use Rattle.grades.specs.Rule.{best, chosen}
 use Rattle.grades.proofs.Optimal.{Ends, Found, ends}
 use Rattle.diagrams.specs.Apply.{Bit}
 use Rattle.diagrams.specs.Needs.{indicator}

@@ -1,7 +1,7 @@
 -- what is spelled is read back
-use Rattle.std.proofs.Common.{◌≡◌, ℕ, zero, suc, ◌+◌, ◌-◌, ◌*◌, ◌/◌, ◌%◌, ◌^◌, ◌<◌, ◌≤◌, Bool, true, false, cond, not, ◌&&◌, eqb, ltb, leb, List, [], ◌∷◌, ◌++◌, length, take, drop, ℤ, pos, negsuc, nat_abs, sym, refl, ap, ◌∙◌, append_assoc, append-nil, arith, length-append, length-drop, take_at, ltb-true, le-ltb, lt-ltb, eq-eqb}
-use Rattle.std.proofs.lemmas.List.{drop-drop, drop_at, drop-take, take-append-drop, length-take-le}
-use Rattle.std.proofs.lemmas.Bool.{cond-true, cond-false, and_parts, and_from, le-leb, leb-true, not_from_false, ne_eqb}
+use Rattle.std.proofs.Common.{◌≡◌, ℕ, zero, suc, ◌+◌, ◌-◌, ◌*◌, ◌/◌, ◌%◌, ◌^◌, ◌<◌, ◌≤◌, Bool, true, false, cond, not, ◌&&◌, ltb, leb, List, [], ◌∷◌, ◌++◌, length, take, drop, ℤ, pos, negsuc, nat_abs, sym, refl, ap, ◌∙◌, append_assoc, append-nil, arith, length-append, length-drop, take_at, le-ltb, lt-ltb, eq-eqb}
+use Rattle.std.proofs.lemmas.List.{drop-drop, drop_at, drop-take, length-take-le}
+use Rattle.std.proofs.lemmas.Bool.{cond-true, cond-false, and_parts, and_from, le-leb, leb-true, not_from_false}
 use lib.Seq.{sets, sets-eq}
 use Rattle.limits.specs.declared.Sense.{Sense}
 use Rattle.limits.specs.declared.Sense.TheVariants.{AtMost, AtLeast}
@@ -15,9 +15,9 @@ use Rattle.records.specs.declared.Goal.TheVariants.{Mass, Wait, MassPrice}
 use Rattle.records.specs.Codes.{goal_code, goal_of}
 use Rattle.records.specs.declared.Stage.{Stage}
 use Rattle.records.specs.declared.Stage.TheVariants.{Parts, Limits, End}
-use Rattle.fields.specs.Fields.{Answer, found, fault, and_then, layered, number_at, signed_at, in_range, plain, among, read_name, read_mass, read_amount, coefficient_at, read_term, read_name_size}
-use Rattle.records.specs.Sheets.{Saying, part_says, limit_says, goal_says, end_says, ended, read_part, read_terms, read_limit, read_goal, allowed, read_payload, read_record, read_named_part, read_kind, read_length, read_sized, sense_of}
-use Rattle.spelling.specs.Spelling.{spelled_terms, kind_of, payload, spelled, sense_kind}
+use Rattle.fields.specs.Fields.{Answer, found, and_then, layered, number_at, signed_at, in_range, plain, among, read_name, read_mass, read_amount, read_term, read_name_size}
+use Rattle.records.specs.Sheets.{Saying, part_says, limit_says, goal_says, end_says, ended, read_part, read_terms, read_limit, read_goal, allowed, read_payload, read_record, read_kind, read_length}
+use Rattle.spelling.specs.Spelling.{spelled_terms, kind_of, payload, spelled}
 use Rattle.spelling.specs.Judging.{judge_part, judge_term, judge_terms, judge_bound, judge, or_else, refusal_of}
 use Rattle.spelling.specs.Laws.{MayStand, ReadsBack, BackIn}
 

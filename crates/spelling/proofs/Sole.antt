@@ -1,7 +1,7 @@
 -- what is read has one spelling
-use Rattle.std.proofs.Common.{◌≡◌, ℕ, zero, suc, ◌+◌, ◌-◌, ◌*◌, ◌/◌, ◌%◌, ◌<◌, ◌≤◌, Bool, true, false, cond, not, ◌&&◌, eqb, ltb, leb, List, [], ◌∷◌, ◌++◌, length, get_or, take, drop, ℤ, pos, negsuc, sym, refl, ap, ◌∙◌, append_assoc, append-nil, arith, length-append, length-drop, take-append-drop, take_at, ltb-false, ltb-true}
-use Rattle.std.proofs.lemmas.List.{drop-drop, drop-take, get_or-drop, length-take-le, drop_all}
-use Rattle.std.proofs.lemmas.Bool.{and_parts, leb-true, eqb-true, eqb-false}
+use Rattle.std.proofs.Common.{◌≡◌, ℕ, zero, suc, ◌+◌, ◌-◌, ◌<◌, ◌≤◌, Bool, true, false, cond, not, ◌&&◌, eqb, ltb, leb, List, [], ◌∷◌, ◌++◌, length, take, drop, ℤ, sym, refl, ap, ◌∙◌, append_assoc, append-nil, arith, length-append, length-drop, take-append-drop, ltb-false, ltb-true}
+use Rattle.std.proofs.lemmas.List.{drop-drop, drop-take, length-take-le, drop_all}
+use Rattle.std.proofs.lemmas.Bool.{leb-true, eqb-true, eqb-false}
 use Rattle.limits.specs.declared.Sense.{Sense}
 use Rattle.limits.specs.declared.Sense.TheVariants.{AtMost, AtLeast}
 use Rattle.limits.specs.declared.drafts.Term.{Term}
@@ -9,12 +9,10 @@ use Rattle.numbers.specs.Laws.{Bytes}
 use Rattle.numbers.specs.Numbers.{Reading, read, unread, encode, unsigned_of, read_number, read_signed}
 use Rattle.numbers.proofs.Writes.{length_some}
 use Rattle.numbers.proofs.Spelled.{Stands, standing, number_stands, signed_stands}
-use Rattle.records.specs.declared.Goal.{Goal}
-use Rattle.records.specs.declared.Goal.TheVariants.{Mass, Wait, MassPrice}
 use Rattle.records.specs.Codes.{goal_code, goal_of}
 use Rattle.records.specs.declared.Stage.{Stage}
 use Rattle.records.specs.declared.Stage.TheVariants.{Parts, Limits, End}
-use Rattle.fields.specs.Fields.{Answer, found, fault, and_then, layered, number_at, signed_at, in_range, plain, among, read_name, read_mass, read_amount, coefficient_at, read_term, read_name_size}
+use Rattle.fields.specs.Fields.{Answer, found, fault, and_then, layered, number_at, signed_at, in_range, plain, among, read_name, read_mass, read_amount, read_term, read_name_size}
 use Rattle.records.specs.Sheets.{Saying, part_says, limit_says, goal_says, end_says, ended, read_part, read_terms, read_limit, read_goal, allowed, read_payload, read_record, read_named_part, read_kind, read_length, read_sized, sense_of}
 use Rattle.spelling.specs.Spelling.{spelled_terms, kind_of, payload, spelled, sense_kind}
 use Rattle.spelling.specs.Laws.{OneSpelling}

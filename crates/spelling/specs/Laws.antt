@@ -1,5 +1,5 @@
 -- What a sheet's maker and its reader may rely on.
-use Rattle.std.specs.Prelude.{◌≡◌, ℕ, ◌+◌, ◌-◌, ◌<◌, true, false, List, [], ◌∷◌, ◌++◌, length, take, drop}
+use Rattle.std.specs.Prelude.{◌≡◌, ℕ, ◌+◌, ◌-◌, ◌<◌, true, false, List, [], ◌++◌, length, take, drop}
 use Rattle.limits.specs.Refusals.{done}
 use Rattle.numbers.specs.Laws.{Bytes}
 use Rattle.fields.specs.Fields.{found, among}

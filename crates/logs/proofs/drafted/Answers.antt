@@ -1,4 +1,4 @@
-use Rattle.std.proofs.Common.{ap, ap₂, rules}
+use Rattle.std.proofs.Common.{ap, ap₂}
 use Rattle.logs.specs.Drafted.{Drafted, with_terms}
 use Rattle.logs.proofs.Drafting.{draft_of, takes_one, took_all}
 use Rattle.logs.proofs.drafted.Goals as goal

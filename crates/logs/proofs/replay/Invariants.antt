@@ -1,5 +1,4 @@
-use Rattle.std.proofs.Common.{◌≡◌, ◌≤◌, [], length, drop}
-use Rattle.jobs.specs.Calls.{standing}
+use Rattle.std.proofs.Common.{◌≡◌, length, drop}
 use Rattle.jobs.specs.Stands.{stands, places}
 use Rattle.logs.specs.Logs.{lent}
 use Rattle.logs.proofs.Running.{SoFar}

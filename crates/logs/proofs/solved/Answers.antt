@@ -1,6 +1,6 @@
-use Rattle.std.proofs.Common.{◌≡◌, length, sym, refl, ap, ◌∙◌, subst, rules}
+use Rattle.std.proofs.Common.{length, sym, ap, subst}
 use Rattle.jobs.specs.Stands.{stands}
-use Rattle.logs.specs.Logs.{Lent, lent, SolvedRight}
+use Rattle.logs.specs.Logs.{lent, SolvedRight}
 use Rattle.logs.specs.declared.Weights.{Weights}
 use Rattle.logs.specs.declared.Reply.TheVariants.{Solved, Refused}
 use Rattle.logs.specs.declared.Found.TheVariants as found

@@ -1,4 +1,4 @@
-use Rattle.std.proofs.Common.{◌≡◌, List, map, length, ap, ◌∙◌, rules}
+use Rattle.std.proofs.Common.{map, length, ap, ◌∙◌}
 use Rattle.std.proofs.lemmas.Result.{MatchResult-weaker}
 use Rattle.jobs.specs.Calls.{asked}
 use Rattle.jobs.specs.Stands.{stands}

@@ -1,4 +1,4 @@
-use Rattle.std.proofs.Common.{map, length, arith, rules}
+use Rattle.std.proofs.Common.{map, length, arith}
 use Rattle.tables.specs.Chains.{made}
 use Rattle.rows.proofs.Values.{under_down}
 use Rattle.rows.proofs.Steps.{told}

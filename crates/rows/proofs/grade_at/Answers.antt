@@ -1,4 +1,4 @@
-use Rattle.std.proofs.Common.{◌<◌, ◌≤◌, length, arith, rules}
+use Rattle.std.proofs.Common.{◌<◌, ◌≤◌, length, arith}
 use Rattle.std.proofs.lemmas.List.{length-map}
 use Rattle.rows.proofs.Steps.{nth_map, all_map_at, is_there, is_that}
 use Rattle.rows.proofs.grade_at.Goals as goal

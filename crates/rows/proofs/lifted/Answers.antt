@@ -1,4 +1,4 @@
-use Rattle.std.proofs.Common.{map, arith, rules}
+use Rattle.std.proofs.Common.{map, arith}
 use Rattle.rows.proofs.Steps.{lift_step}
 use Rattle.rows.proofs.lifted.Goals as goal
 

@@ -1,4 +1,4 @@
-use Rattle.std.proofs.Common.{map, rules}
+use Rattle.std.proofs.Common.{map}
 use Rattle.tables.specs.Chains.{made}
 use Rattle.rows.proofs.Steps.{node_step}
 use Rattle.rows.proofs.node_best.Goals as goal

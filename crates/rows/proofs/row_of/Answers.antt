@@ -1,4 +1,4 @@
-use Rattle.std.proofs.Common.{suc, map, rules}
+use Rattle.std.proofs.Common.{suc, map}
 use Rattle.tables.specs.Chains.{made}
 use Rattle.rows.proofs.Values.{under_up}
 use Rattle.rows.proofs.Steps.{row_is}

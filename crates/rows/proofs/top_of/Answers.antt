@@ -1,4 +1,4 @@
-use Rattle.std.proofs.Common.{map, sym, arith, rules}
+use Rattle.std.proofs.Common.{map, sym, arith}
 use Rattle.std.proofs.lemmas.List.{length-map}
 use Rattle.tables.specs.Chains.{made}
 use Rattle.rows.proofs.Values.{inside_at}

@@ -1,4 +1,4 @@
-use Rattle.std.proofs.Common.{true, false, map, arith, rules}
+use Rattle.std.proofs.Common.{true, false, map, arith}
 use Rattle.tables.specs.Chains.{made}
 use Rattle.solving.proofs.Turning.{turns_under, settles_out, settles_fit}
 use Rattle.solving.proofs.settle.Goals as goal

@@ -1,4 +1,4 @@
-use Rattle.std.proofs.Common.{map, length, arith, rules}
+use Rattle.std.proofs.Common.{map, length, arith}
 use Rattle.tables.specs.Chains.{made}
 use Rattle.solving.proofs.Readoff.{start_stands, filled_now, solve_some, solve_none}
 use Rattle.solving.proofs.solve.Goals as goal

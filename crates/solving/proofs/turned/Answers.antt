@@ -1,4 +1,3 @@
-use Rattle.std.proofs.Common.{rules}
 use Rattle.tables.specs.Chains.{made}
 use Rattle.rows.proofs.Values.{inside_at}
 use Rattle.solving.proofs.Turning.{turns_terminal, turns_skip, turns_leave, turns_fit}

@@ -1,4 +1,4 @@
-use Rattle.std.proofs.Common.{map, arith, rules}
+use Rattle.std.proofs.Common.{map, arith}
 use Rattle.std.proofs.lemmas.List.{length-map}
 use Rattle.solving.proofs.Readoff.{word_step, word_small, bit_small, bit_next, word_end}
 use Rattle.solving.proofs.word_of.Goals as goal

@@ -1,4 +1,4 @@
-use Rattle.std.proofs.Common.{refl, arith, rules}
+use Rattle.std.proofs.Common.{refl, arith}
 use Rattle.tables.specs.Chains.{made}
 use Rattle.jobs.proofs.Kept.{empty_books}
 use Rattle.jobs.proofs.Ready.{fits_of}

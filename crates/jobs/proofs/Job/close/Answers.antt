@@ -1,8 +1,8 @@
-use Rattle.std.proofs.Common.{◌≡◌, ◌+◌, ◌<◌, length, sym, refl, ap, ◌∙◌, arith}
+use Rattle.std.proofs.Common.{◌<◌, length, refl, ap, ◌∙◌, arith}
 use Rattle.std.proofs.lemmas.List.{length-set}
-use Rattle.limits.specs.Refusals.{done, refused, number}
+use Rattle.limits.specs.Refusals.{refused, number}
 use Rattle.tables.specs.Chains.{room}
-use Rattle.jobs.specs.Books.{limits_of, product_of}
+use Rattle.jobs.specs.Books.{limits_of}
 use Rattle.jobs.specs.Calls.{standing, closed, after_close}
 use Rattle.jobs.proofs.Ready.{fits_of, table_ready}
 use Rattle.jobs.proofs.Closing.{refused_reply, may_begin, inside, too_few, same_books, accepted, longer_books, longer_stands, stands_by}
@@ -27,12 +27,12 @@ extend-requires g c = record {
 pub invariant_of-self : goal.invariant_of-self
 invariant_of-self g c =
     let h : c.args.self.now.ledger.count < length c.args.self.now.ledger.records = inside c.args.self.now.parts c.args.self.now.table c.args.self.now.ledger.records c.args.self.now.ledger.count c.product-product.result c.finish-limit.result c.last-last.result (fits_of c.args.self.now.table c.args.self.now.fits) c.args.self.now.books c.product-product.ensures c.args.self.now.few c.args.self.now.whole c.args.self.now.count c.in_default.ensures in record {
-  few = c.args.self.now.few;
-  fits = ∣ c.in-Some.ensures.table.fits ∣₁;
-  count = omega (arith, h, c.args.self.now.whole, c.post.ensures.count);
-  whole = ap length c.post.ensures.records ∙ simp length-set c.args.self.now.whole;
-  books = longer_books c.args.self.now.parts c.args.self.now.table c.args.self.now.ledger.records c.args.self.now.ledger.count c.product-product.result c.finish-limit.result c.last-last.result (fits_of c.args.self.now.table c.args.self.now.fits) c.args.self.now.books c.product-product.ensures c.args.self.now.few c.args.self.now.whole c.args.self.now.count c.in_default.ensures c.extend.new.table c.in-Some.edge c.in-Some.ensures c.used-mark.result (c.used-mark.ensures.nodes (fits_of c.args.self.now.table c.args.self.now.fits)) c.post.new.self.records c.post.new.self.count c.post.ensures.records c.post.ensures.count;
-}
+      few = c.args.self.now.few;
+      fits = ∣ c.in-Some.ensures.table.fits ∣₁;
+      count = omega (arith, h, c.args.self.now.whole, c.post.ensures.count);
+      whole = ap length c.post.ensures.records ∙ simp length-set c.args.self.now.whole;
+      books = longer_books c.args.self.now.parts c.args.self.now.table c.args.self.now.ledger.records c.args.self.now.ledger.count c.product-product.result c.finish-limit.result c.last-last.result (fits_of c.args.self.now.table c.args.self.now.fits) c.args.self.now.books c.product-product.ensures c.args.self.now.few c.args.self.now.whole c.args.self.now.count c.in_default.ensures c.extend.new.table c.in-Some.edge c.in-Some.ensures c.used-mark.result (c.used-mark.ensures.nodes (fits_of c.args.self.now.table c.args.self.now.fits)) c.post.new.self.records c.post.new.self.count c.post.ensures.records c.post.ensures.count;
+    }
 
 pub invariant_of-self-in-None : goal.invariant_of-self-in-None
 invariant_of-self-in-None g c = record {

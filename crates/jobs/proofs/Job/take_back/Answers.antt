@@ -1,4 +1,4 @@
-use Rattle.std.proofs.Common.{◌≡◌, ◌<◌, ◌≤◌, cond, length, sym, refl, ap, ◌∙◌, arith}
+use Rattle.std.proofs.Common.{◌<◌, cond, length, sym, ap, ◌∙◌, arith}
 use Rattle.limits.specs.Refusals.{done, refused}
 use Rattle.tables.specs.Chains.{made, Fits}
 use Rattle.tables.proofs.Tables.{made_length}

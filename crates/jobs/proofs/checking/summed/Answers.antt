@@ -1,4 +1,4 @@
-use Rattle.std.proofs.Common.{◌≡◌, sym, ap, ◌∙◌, arith, rules}
+use Rattle.std.proofs.Common.{◌∙◌}
 use Rattle.jobs.proofs.Sums.{again, finished, sum_is, sum_small}
 use Rattle.jobs.proofs.checking.summed.Goals as goal
 

@@ -31,7 +31,7 @@ returns c =
       omega arith,
       chain_5 c.args.out.now c.put_bytes-next.new.out c.put_signed-next.new.out c.put_bytes-next-2.new.out c.put_decimal-next.new.out c.put_bytes.new.out
           c.args.at c.put_bytes-next.result c.put_signed-next.result c.put_bytes-next-2.result c.put_decimal-next.result
-          (codes "goal mass_price ") (signed_decimal c.args.m) (32 ∷ []) (decimal c.args.p) (10 ∷ [])
+          (codes "goal mass-price ") (signed_decimal c.args.m) (32 ∷ []) (decimal c.args.p) (10 ∷ [])
           c.put_bytes-next.ensures.out c.put_bytes-next.ensures.end v u c.put_bytes-next-2.ensures.out c.put_bytes-next-2.ensures.end
           c.put_decimal-next.ensures.1 c.put_decimal-next.ensures.0 c.put_bytes.ensures.out,
     )

@@ -1,4 +1,4 @@
-use Rattle.std.proofs.Common.{◌≡◌, sym, refl, ap, ◌∙◌, arith, rules}
+use Rattle.std.proofs.Common.{refl, rules}
 use Rattle.spelling.proofs.Back.{back_in}
 use Rattle.recording.proofs.Writer.append.Goals as goal
 

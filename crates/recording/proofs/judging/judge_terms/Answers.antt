@@ -1,4 +1,4 @@
-use Rattle.std.proofs.Common.{◌≡◌, ℕ, ◌+◌, ◌-◌, ◌<◌, ◌≤◌, length, get_or, drop, sym, refl, ap, ◌∙◌, arith, rules}
+use Rattle.std.proofs.Common.{◌∙◌, arith, rules}
 use Rattle.recording.proofs.judging.judge_terms.Goals as goal
 use Rattle.recording.proofs.Puts.{blank, judge_stop, judge_more, judge_none}
 

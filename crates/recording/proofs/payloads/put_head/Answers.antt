@@ -1,4 +1,4 @@
-use Rattle.std.proofs.Common.{arith, rules}
+use Rattle.std.proofs.Common.{arith}
 use Rattle.numbers.specs.Numbers.{encode}
 use Rattle.numbers.proofs.Writes.{length_some}
 use Rattle.recording.proofs.payloads.put_head.Goals as goal

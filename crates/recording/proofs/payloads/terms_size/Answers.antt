@@ -1,7 +1,5 @@
-use Rattle.std.proofs.Common.{◌≡◌, ℕ, ◌+◌, ◌-◌, ◌<◌, ◌≤◌, length, get_or, drop, sym, refl, ap, ◌∙◌, arith, rules}
+use Rattle.std.proofs.Common.{◌≡◌, length, get_or, ap, arith, rules}
 use Rattle.numbers.specs.Numbers.{encode, unsigned_of}
-use Rattle.records.specs.Sheets.{part_says, limit_says, goal_says, end_says}
-use Rattle.spelling.specs.Spelling.{payload}
 use Rattle.recording.proofs.payloads.terms_size.Goals as goal
 use Rattle.recording.proofs.Puts.{blank, size_more, spelled_none}
 

@@ -1,4 +1,4 @@
-use Rattle.std.proofs.Common.{◌≡◌, ℕ, ◌+◌, ◌-◌, ◌<◌, ◌≤◌, length, get_or, drop, sym, refl, ap, ◌∙◌, arith, rules}
+use Rattle.std.proofs.Common.{◌≡◌, length, refl, ap, ◌∙◌, rules}
 use Rattle.numbers.specs.Numbers.{encode}
 use Rattle.records.specs.Codes.{goal_code}
 use Rattle.records.specs.Sheets.{goal_says}

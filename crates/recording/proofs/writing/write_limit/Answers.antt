@@ -1,4 +1,4 @@
-use Rattle.std.proofs.Common.{◌≡◌, ℕ, ◌+◌, ◌-◌, ◌<◌, ◌≤◌, length, get_or, drop, sym, refl, ap, ◌∙◌, arith, length-append, rules}
+use Rattle.std.proofs.Common.{◌≡◌, ◌+◌, length, ap, arith, length-append, rules}
 use Rattle.limits.specs.Refusals.{done}
 use Rattle.numbers.specs.Numbers.{encode, unsigned_of}
 use Rattle.numbers.proofs.Chains.{chain}

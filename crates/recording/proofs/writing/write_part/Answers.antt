@@ -1,4 +1,4 @@
-use Rattle.std.proofs.Common.{◌≡◌, ℕ, ◌+◌, ◌-◌, ◌<◌, ◌≤◌, length, get_or, drop, sym, refl, ap, ◌∙◌, arith, rules}
+use Rattle.std.proofs.Common.{refl, rules}
 use Rattle.records.specs.Sheets.{part_says}
 use Rattle.recording.proofs.writing.write_part.Goals as goal
 use Rattle.recording.proofs.Puts.{appended, too_short}

@@ -1,4 +1,4 @@
-use Rattle.std.proofs.Common.{◌≡◌, ◌<◌, ◌≤◌, length, sym, refl, ap, ◌∙◌, subst, arith, rules}
+use Rattle.std.proofs.Common.{◌≡◌, ◌<◌, length, sym, refl, ap, ◌∙◌, subst, arith}
 use Rattle.records.specs.Sheets.{stage_after, names_after}
 use Rattle.records.specs.Meanings.{said, held_names, Shows}
 use Rattle.records.proofs.Parts.{contents_push}

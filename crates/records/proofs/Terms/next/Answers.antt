@@ -1,4 +1,4 @@
-use Rattle.std.proofs.Common.{◌≡◌, sym, refl, ap, ◌∙◌, arith, rules}
+use Rattle.std.proofs.Common.{sym, refl, arith, rules}
 use Rattle.records.proofs.Shown.{left_none, left_more, left_fault, next_none, next_found, next_fault}
 use Rattle.records.proofs.Terms.next.Goals as goal
 

@@ -1,7 +1,5 @@
-use Rattle.std.proofs.Common.{◌≡◌, ℕ, ◌+◌, ◌-◌, List, [], ◌∷◌, ◌++◌, length, sym, refl, ap, ◌∙◌, arith, rules}
-use Rattle.limits.specs.declared.drafts.Term.{Term}
-use Rattle.records.specs.Sheets.{read_terms}
-use Rattle.records.proofs.Shown.{after, terms_more, terms_fault, terms_end, after_none}
+use Rattle.std.proofs.Common.{◌-◌, [], ◌∷◌, ◌++◌, length, sym, ◌∙◌, arith, rules}
+use Rattle.records.proofs.Shown.{terms_more, terms_fault, terms_end, after_none}
 use Rattle.records.proofs.payloads.all_terms.Goals as goal
 
 pub loop-next-init : goal.loop-next-init

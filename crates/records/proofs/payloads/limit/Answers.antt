@@ -1,4 +1,4 @@
-use Rattle.std.proofs.Common.{arith, rules}
+use Rattle.std.proofs.Common.{rules}
 use Rattle.records.proofs.Shown.{limit_found}
 use Rattle.records.proofs.payloads.limit.Goals as goal
 

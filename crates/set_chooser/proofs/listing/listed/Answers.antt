@@ -1,4 +1,4 @@
-use Rattle.std.proofs.Common.{◌≡◌, length, sym, ap, ◌∙◌, subst, arith}
+use Rattle.std.proofs.Common.{length, sym, ap, ◌∙◌, subst, arith}
 use Rattle.listings.specs.Listings.{contents, Listed}
 use Rattle.jobs.specs.Calls.{standing}
 use Rattle.jobs.specs.Stands.{stands, places}

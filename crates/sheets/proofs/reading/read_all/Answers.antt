@@ -1,5 +1,4 @@
-use Rattle.std.proofs.Common.{◌≡◌, ℕ, suc, ◌<◌, ◌≤◌, length, sym, refl, ap, ◌∙◌, arith}
-use Rattle.records.specs.Meanings.{held_names}
+use Rattle.std.proofs.Common.{suc, ◌<◌, length, sym, refl, ap, ◌∙◌, arith}
 use Rattle.jobs.specs.Calls.{Standing}
 use Rattle.jobs.specs.Stands.{places}
 use Rattle.sheets.specs.Told.{read_all, untold, goes_on, ended, broken}

@@ -1,4 +1,4 @@
-use Rattle.std.proofs.Common.{◌≡◌, ℕ, suc, ◌-◌, ◌≤◌, length}
+use Rattle.std.proofs.Common.{◌≡◌, suc, ◌-◌, ◌≤◌, length}
 use Rattle.records.specs.Meanings.{held_names}
 use Rattle.jobs.specs.Stands.{stands, places}
 use Rattle.sheets.specs.Told.{read_all, untold}

@@ -1,4 +1,4 @@
-use Rattle.std.proofs.Common.{◌≡◌, replicate, pos, None, sym, refl, ap, ◌∙◌, subst, arith}
+use Rattle.std.proofs.Common.{◌≡◌, replicate, pos, sym, subst}
 use Rattle.limits.specs.Refusals.{done}
 use Rattle.limits.specs.Drafts.{tested}
 use Rattle.sheets.proofs.Makes.{Made, AfterLast, made_none, takes, term_judged, made_more, after_more, made_coefficients, made_last}

@@ -1,4 +1,4 @@
-use Rattle.std.proofs.Common.{ℕ, ◌-◌, length}
+use Rattle.std.proofs.Common.{◌-◌, length}
 use Rattle.sheets.proofs.Makes.{Made, AfterLast}
 use Rattle.sheets.proofs.steps.drafted.Given as goal
 

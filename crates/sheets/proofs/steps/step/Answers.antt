@@ -1,8 +1,8 @@
-use Rattle.std.proofs.Common.{◌≡◌, length, None, sym, refl, ap, ◌∙◌, subst, arith, w32, to_z, of_z, rules}
+use Rattle.std.proofs.Common.{◌≡◌, length, None, sym, refl, ap, ◌∙◌, w32, to_z, of_z, rules}
 use Rattle.limits.specs.Refusals.{number}
 use Rattle.fields.specs.Fields.{found}
 use Rattle.records.specs.Sheets.{part_says, limit_says, stage_after, names_after}
-use Rattle.records.specs.Meanings.{said, held_names, terms_in, Shows}
+use Rattle.records.specs.Meanings.{said, held_names, terms_in}
 use Rattle.tables.specs.Chains.{room}
 use Rattle.jobs.specs.Books.{limits_of}
 use Rattle.jobs.specs.Calls.{standing}

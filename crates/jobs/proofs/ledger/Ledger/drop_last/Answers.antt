@@ -1,4 +1,4 @@
-use Rattle.std.proofs.Common.{◌≡◌, ◌-◌, ◌<◌, length, sym, refl, ap, ◌∙◌, arith, rules}
+use Rattle.std.proofs.Common.{◌-◌, ◌<◌, length, refl, ap, arith}
 use Rattle.jobs.specs.Books.{blank}
 use Rattle.jobs.specs.declared.ledger.Record.{Record}
 use Rattle.std.proofs.lemmas.List.{get_or_default}

@@ -1,4 +1,4 @@
-use Rattle.std.proofs.Common.{◌≡◌, suc, ◌-◌, ◌<◌, length, sym, ap, ◌∙◌, arith, rules}
+use Rattle.std.proofs.Common.{◌≡◌, suc, ◌-◌, ◌<◌, length, ap, ◌∙◌, arith}
 use Rattle.jobs.specs.Books.{product_of, blank}
 use Rattle.jobs.specs.declared.ledger.Record.{Record}
 use Rattle.std.proofs.lemmas.List.{get_or_default}
