@@ -1,6 +1,6 @@
 -- What the rule's choice is among all choices.
 use Rattle.std.specs.Prelude.{◌≡◌, ◌≤◌, Bool, true, false, not, List, [], ◌∷◌, length, Some, None, Option, ◌≢◌}
-use Rattle.std.specs.List.{AllByRecursion as All}
+use Rattle.std.specs.List.{AllByRecursion}
 use Rattle.grades.specs.Laws.{Kind}
 use Rattle.grades.specs.Rule.{grade, best, chosen, answer, left_out, put_on}
 
@@ -50,4 +50,4 @@ BestIsBest {G} K = (ws : List G) (passes : List Bool → Bool) → Best K ws pas
 -- the grade of a choice among at most 48 parts, with weights in range, has a size of at most 48,000,000
 abbrev pub SizesStay : {G : Type 0} → Kind G → Type 0
 SizesStay {G} K =
-    (ws : List G) (c : List Bool) → length ws ≤ 48 → All (λ w. K.size w ≤ 1000000) ws → K.size (grade K ws c) ≤ 48000000
+    (ws : List G) (c : List Bool) → length ws ≤ 48 → AllByRecursion (λ w. K.size w ≤ 1000000) ws → K.size (grade K ws c) ≤ 48000000

@@ -5,7 +5,7 @@ use mathlib.Core.HLevel.{Π_prop, ×_prop, Unit-prop}
 use native.Mathlib.Nat.{ℕ_set}
 use native.Mathlib.Bridge.{le_prop}
 use lib.IntN.{ℤ_set}
-use Rattle.std.specs.List.{AllByRecursion as All, slice_get}
+use Rattle.std.specs.List.{AllByRecursion, slice_get}
 use Rattle.std.proofs.lemmas.Bool.{leb-true}
 use Rattle.limits.specs.declared.Limit.{Limit}
 use Rattle.limits.specs.Limits.{keeps_all}
@@ -173,11 +173,11 @@ begins parts t rs count e l books e-is few small bound = record {
   bound = bound;
 }
 
-range_small : {V : Type 0} (k : Kind V) (vs : List V) → all_in_range k vs ≡ true → All (λ v. k.size v ≤ 1000000) vs
+range_small : {V : Type 0} (k : Kind V) (vs : List V) → all_in_range k vs ≡ true → AllByRecursion (λ v. k.size v ≤ 1000000) vs
 range_small k [] h = tt
 range_small k (v ∷ vs) h = go (leb (k.size v) 1000000) refl h (range_small k vs)
   where
-    go : (b : Bool) → leb (k.size v) 1000000 ≡ b → b && all_in_range k vs ≡ true → (all_in_range k vs ≡ true → All (λ v. k.size v ≤ 1000000) vs) → All (λ v. k.size v ≤ 1000000) (v ∷ vs)
+    go : (b : Bool) → leb (k.size v) 1000000 ≡ b → b && all_in_range k vs ≡ true → (all_in_range k vs ≡ true → AllByRecursion (λ v. k.size v ≤ 1000000) vs) → AllByRecursion (λ v. k.size v ≤ 1000000) (v ∷ vs)
     go true e q rest = (leb-true (k.size v) 1000000 e, rest q)
     go false e q rest = let z : ◌≡◌ {A = ℕ} 0 1 = cc in absurd (omega arith)
 

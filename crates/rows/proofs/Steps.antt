@@ -2,7 +2,7 @@
 use Rattle.std.proofs.Common.{◌≡◌, ℕ, zero, suc, ◌+◌, ◌-◌, ◌*◌, ◌<◌, ◌≤◌, Bool, true, false, cond, List, [], ◌∷◌, map, length, get_or, drop, set, pos, ◌+ℤ◌, is_some, Some, None, Option, sym, refl, ap, ◌∙◌, subst, ap₂, ⊎_elim, add-one, arith, MatchOption}
 use mathlib.Core.Path.{fun_ext}
 use lib.IntN.{+ℤ_assoc}
-use Rattle.std.specs.List.{slice_get, AllByRecursion as All}
+use Rattle.std.specs.List.{slice_get, AllByRecursion}
 use Rattle.std.proofs.lemmas.Bool.{cases_eq}
 use Rattle.std.proofs.lemmas.List.{drop_all, length-drop, get_or_default, get_or-set_same, get_or-set_other}
 use Rattle.std.proofs.ByRecursion.{All-drop}
@@ -34,7 +34,7 @@ nth_map f (a ∷ xs) zero x y h e g = ap Some (ap f (sym e) ∙ sym g)
 nth_map f (a ∷ xs) (suc i) x y h e g = nth_map f xs i x y (omega arith) e g
 
 -- what holds of each meaning holds of the one read
-pub all_map_at : {X Y : Type 0} (P : Y → Type 0) (f : X → Y) (xs : List X) (i : ℕ) (x : X) → i < length xs → x ≡ get_or xs i x → All P (map f xs) → P (f x)
+pub all_map_at : {X Y : Type 0} (P : Y → Type 0) (f : X → Y) (xs : List X) (i : ℕ) (x : X) → i < length xs → x ≡ get_or xs i x → AllByRecursion P (map f xs) → P (f x)
 all_map_at P f [] i x h e all = absurd (omega arith)
 all_map_at P f (a ∷ xs) zero x h e all = subst (λ z. P (f z)) (sym e) all.0
 all_map_at P f (a ∷ xs) (suc i) x h e all = all_map_at P f xs i x (omega arith) e all.1
@@ -73,7 +73,7 @@ module _ {V G : Type 0} {k : Kind V} (laws : Laws k) (means : G → V) where
   sized_put m w None h l = tt
   sized_put m w (Some v) h l = omega (arith, laws.size_join w v)
 
-  sized_best : (vs : List V) (p : List Bool → Bool) → All (λ v. k.size v ≤ 1000000) vs → Sized (1000000 * length vs) (best k vs p)
+  sized_best : (vs : List V) (p : List Bool → Bool) → AllByRecursion (λ v. k.size v ≤ 1000000) vs → Sized (1000000 * length vs) (best k vs p)
   sized_best [] p small = sized_cond (1000000 * 0) (p []) (Some k.empty) None (omega (arith, laws.size_empty)) tt
   sized_best (w ∷ vs) p small =
       let out : Option V = best k vs (λ c. p (false ∷ c)) in
@@ -82,7 +82,7 @@ module _ {V G : Type 0} {k : Kind V} (laws : Laws k) (means : G → V) where
       (sized_up (1000000 * length vs) (1000000 * suc (length vs)) out (omega arith) (sized_best vs (λ c. p (false ∷ c)) small.1))
       (sized_up (1000000 + 1000000 * length vs) (1000000 * suc (length vs)) (put_on k w fit) (omega arith) (sized_put (1000000 * length vs) w fit small.0 (sized_best vs (λ c. p (true ∷ c)) small.1)))
 
-  put_is : (w : V) (vs : List V) (p : List Bool → Bool) (o r : Option G) → All (λ v. k.size v ≤ 1000000) (w ∷ vs) → length vs < 48 → mapped means o ≡ best k vs p → Put k means w o r → mapped means r ≡ put_on k w (mapped means o)
+  put_is : (w : V) (vs : List V) (p : List Bool → Bool) (o r : Option G) → AllByRecursion (λ v. k.size v ≤ 1000000) (w ∷ vs) → length vs < 48 → mapped means o ≡ best k vs p → Put k means w o r → mapped means r ≡ put_on k w (mapped means o)
   put_is w vs p None None small few is put = refl
   put_is w vs p None (Some g) small few is put = absurd put
   put_is w vs p (Some b) None small few is put = absurd put
@@ -91,15 +91,15 @@ module _ {V G : Type 0} {k : Kind V} (laws : Laws k) (means : G → V) where
       ap Some (put (omega (arith, small.0)))
 
   -- both ways at a part
-  join_best : (w : V) (vs : List V) (p q : List Bool → Bool) (o f r : Option G) → All (λ v. k.size v ≤ 1000000) (w ∷ vs) → length vs < 48 → mapped means o ≡ best k vs p → mapped means f ≡ best k vs q → Put k means w f r → mapped means (better_of k means o r) ≡ better k (best k vs p) (put_on k w (best k vs q))
+  join_best : (w : V) (vs : List V) (p q : List Bool → Bool) (o f r : Option G) → AllByRecursion (λ v. k.size v ≤ 1000000) (w ∷ vs) → length vs < 48 → mapped means o ≡ best k vs p → mapped means f ≡ best k vs q → Put k means w f r → mapped means (better_of k means o r) ≡ better k (best k vs p) (put_on k w (best k vs q))
   join_best w vs p q o f r small few ho hf put = mapped_better o r ∙ ap₂ (better k) ho (put_is w vs q f r small few hf put ∙ ap (put_on k w) hf)
 
-  pub put_best : (w : V) (vs : List V) (q : List Bool → Bool) (f r : Option G) → All (λ v. k.size v ≤ 1000000) (w ∷ vs) → length vs < 48 → mapped means f ≡ best k vs q → Put k means w f r → mapped means r ≡ put_on k w (best k vs q)
+  pub put_best : (w : V) (vs : List V) (q : List Bool → Bool) (f r : Option G) → AllByRecursion (λ v. k.size v ≤ 1000000) (w ∷ vs) → length vs < 48 → mapped means f ≡ best k vs q → Put k means w f r → mapped means r ≡ put_on k w (best k vs q)
   put_best w vs q f r small few hf put = put_is w vs q f r small few hf put ∙ ap (put_on k w) hf
 
   module _ (vs : List V) (weighed : Weighed k vs) (j : ℕ) (v : V) (read : slice_get vs j ≡ Some v) where
-    pub small_from : All (λ x. k.size x ≤ 1000000) (v ∷ drop (suc j) vs)
-    small_from = subst (All (λ x. k.size x ≤ 1000000)) (drop_nth vs j v read) (All-drop (λ x. k.size x ≤ 1000000) j vs weighed.small)
+    pub small_from : AllByRecursion (λ x. k.size x ≤ 1000000) (v ∷ drop (suc j) vs)
+    small_from = subst (AllByRecursion (λ x. k.size x ≤ 1000000)) (drop_nth vs j v read) (All-drop (λ x. k.size x ≤ 1000000) j vs weighed.small)
 
     pub few_from : length (drop (suc j) vs) < 48
     few_from = let h = nth_is vs j v v read in omega (arith, length-drop (suc j) vs, weighed.few, h.0)

@@ -1,6 +1,6 @@
 -- What a row means: the best grades of the later parts at a node. vs are the grades that the parts' weights mean.
 use Rattle.std.specs.Prelude.{◌≡◌, ℕ, ◌+◌, ◌<◌, ◌≤◌, Bool, cond, List, length, drop, Some, None, Option, slice_index_or}
-use Rattle.std.specs.List.{AllByRecursion as All, slice_get}
+use Rattle.std.specs.List.{AllByRecursion, slice_get}
 use Rattle.grades.specs.Laws.{Kind}
 use Rattle.grades.specs.Rule.{best}
 use Rattle.diagrams.specs.Nodes.{here, Under, Ordered}
@@ -32,7 +32,7 @@ Put k means w (Some b) (Some g) = k.size w + k.size (means b) ≤ 48000000 → m
 -- at most 48 weights, each in range
 pub record Weighed {V : Type 0} (k : Kind V) (vs : List V) : Type 0 where
   pub few : length vs ≤ 48
-  pub small : All (λ v. k.size v ≤ 1000000) vs
+  pub small : AllByRecursion (λ v. k.size v ≤ 1000000) vs
 
 -- the weights can be read with the nodes, whose children stand before them
 pub record Ready {V : Type 0} (k : Kind V) (vs : List V) (ns : List Node) : Type 0 where

@@ -4,7 +4,7 @@ use Rattle.limits.specs.Limits.{keeps_all}
 use Rattle.limits.specs.Refusals.{Reply, done, refused}
 use Rattle.grades.specs.Laws.{Kind, Laws}
 use Rattle.grades.specs.Kinds.{mass_kind, wait_kind, mass_price_kind}
-use Rattle.grades.specs.Rule.{grade, best as best-grade, chosen}
+use Rattle.grades.specs.Rule.{grade, best as best_grade, chosen}
 use Rattle.grades.specs.Optimal.{Answers}
 use Rattle.grades.proofs.Optimal.{rule_is_first_lem, rule_settles_lem}
 use Rattle.grades.specs.Lawful.{mass_laws, wait_laws, mass_price_laws}
@@ -38,9 +38,9 @@ module _ {G : Type 0} (K : Kind G) (laws : Laws K) (shown : G → Grade) (ws : L
         λ some. (c, f, rule_settles_lem K laws ws (keeps_all t.limits), refl),
       )
 
-  tells_by : (r : Reply) → (FaultLine (text (elim r as (λ _. Outcome) [ done ↦ on_best (best-grade K ws (keeps_all t.limits)) | refused n ↦ fault_at n 3 0 0 ])) → ⊥)
-      → TellsBy K shown ws t (text (elim r as (λ _. Outcome) [ done ↦ on_best (best-grade K ws (keeps_all t.limits)) | refused n ↦ fault_at n 3 0 0 ]))
-  tells_by done none = tells_best (best-grade K ws (keeps_all t.limits)) (rule_is_first_lem K laws ws (keeps_all t.limits))
+  tells_by : (r : Reply) → (FaultLine (text (elim r as (λ _. Outcome) [ done ↦ on_best (best_grade K ws (keeps_all t.limits)) | refused n ↦ fault_at n 3 0 0 ])) → ⊥)
+      → TellsBy K shown ws t (text (elim r as (λ _. Outcome) [ done ↦ on_best (best_grade K ws (keeps_all t.limits)) | refused n ↦ fault_at n 3 0 0 ]))
+  tells_by done none = tells_best (best_grade K ws (keeps_all t.limits)) (rule_is_first_lem K laws ws (keeps_all t.limits))
   tells_by (refused n) none = absurd (none (n, 3, 0, 0, refl))
 
 tells_for : (g : Goal) (t : Told) (rows : ℕ) → (FaultLine (text (by_goal g t rows)) → ⊥) → TellsFor g t (text (by_goal g t rows))

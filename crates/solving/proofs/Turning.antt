@@ -2,7 +2,7 @@
 use Rattle.std.proofs.Common.{◌≡◌, ℕ, suc, ◌+◌, ◌<◌, ◌≤◌, Bool, true, false, cond, eqb, List, ◌∷◌, length, drop, pos, ◌+ℤ◌, Some, None, Option, sym, ap, ◌∙◌, subst, ap₂, add-one, arith}
 use mathlib.Core.Path.{fun_ext}
 use lib.IntN.{+ℤ_assoc}
-use Rattle.std.specs.List.{slice_get, AllByRecursion as All}
+use Rattle.std.specs.List.{slice_get, AllByRecursion}
 use Rattle.std.proofs.lemmas.Bool.{ne_eqb, eq-eqb, cond-false, cond-true}
 use Rattle.grades.specs.Laws.{Kind, Laws}
 use Rattle.grades.specs.Rule.{best, put_on, left_out, chosen}
@@ -95,7 +95,7 @@ module _ {V G : Type 0} {k : Kind V} (laws : Laws k) (means : G → V) (vs : Lis
         let us : List V = drop (i + 1) vs in
         let next : drop (suc i) vs ≡ us = ap (λ j. drop j vs) (sym (add-one i)) in
         let more : drop i vs ≡ v ∷ us = drop_nth vs i v read ∙ ap (λ xs. v ∷ xs) next in
-        let smalls : All (λ y. k.size y ≤ 1000000) (v ∷ us) = subst (λ xs. All (λ y. k.size y ≤ 1000000) (v ∷ xs)) next (small_from laws means vs filled.ready.weighed i v read) in
+        let smalls : AllByRecursion (λ y. k.size y ≤ 1000000) (v ∷ us) = subst (λ xs. AllByRecursion (λ y. k.size y ≤ 1000000) (v ∷ xs)) next (small_from laws means vs filled.ready.weighed i v read) in
         let fews : length us < 48 = subst (λ xs. length xs < 48) next (few_from laws means vs filled.ready.weighed i v read) in
         let out-ones : ◌≡◌ {A = List Bool → Bool} (λ c. ones ns i b r (false ∷ c)) (ones ns (i + 1) out.one out.child) = turns_ones ns (length vs) i b r false out.one out.child low filled.ready.ordered turn_out at in
         let fit-ones : ◌≡◌ {A = List Bool → Bool} (λ c. ones ns i b r (true ∷ c)) (ones ns (i + 1) fit.one fit.child) = turns_ones ns (length vs) i b r true fit.one fit.child low filled.ready.ordered turn-fit at in

@@ -9,7 +9,7 @@ use Rattle.limits.specs.declared.drafts.Term.{Term}
 use Rattle.limits.specs.Refusals.{Reply, done, refused}
 use Rattle.numbers.specs.Numbers.{encode, groups, unsigned_of}
 use Rattle.numbers.proofs.Writes.{length_some}
-use Rattle.numbers.proofs.Spelled.{number_back as number_read, signed_back as signed-read}
+use Rattle.numbers.proofs.Spelled.{number_back as number_read, signed_back as signed_read}
 use Rattle.records.specs.declared.Goal.{Goal}
 use Rattle.records.specs.declared.Goal.TheVariants.{Mass, Wait, MassPrice}
 use Rattle.records.specs.Codes.{goal_code, goal_of}
@@ -32,7 +32,7 @@ number_back xs p v rest h e = ap (layered p) (number_read xs p v rest h e)
 
 signed_back : (xs : List ℕ) (p : ℕ) (v : ℤ) (rest : List ℕ) → unsigned_of v < 2 ^ 32 → drop p xs ≡ encode (unsigned_of v) ++ rest
     → signed_at xs p ≡ found v (p + length (encode (unsigned_of v)))
-signed_back xs p v rest h e = ap (layered p) (signed-read xs p v rest h e)
+signed_back xs p v rest h e = ap (layered p) (signed_read xs p v rest h e)
 
 -- a signed number that is small has a small code
 code_small : (v : ℤ) (n : ℕ) → leb (nat_abs v) n ≡ true → n ≤ 100000000 → unsigned_of v < 2 ^ 32
