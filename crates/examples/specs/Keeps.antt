@@ -2,7 +2,7 @@
 use Rattle.std.specs.Prelude.{◌≡◌, ℕ, refl}
 use Rattle.std.proofs.Common.{ap, ◌∙◌, arith}
 use Rattle.grades.specs.Laws.{Laws}
-use Rattle.examples.specs.CostWaits.{Bought, bought, cost_wait_kind}
+use Rattle.examples.specs.CostWaits.{bought, cost_wait_kind}
 
 both : {a b p q : ℕ} → a ≡ b → p ≡ q → bought a p ≡ bought b q
 both {a} {b} {p} {q} e f = ap (λ z. bought z p) e ∙ ap (bought b) f
