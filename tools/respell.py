@@ -5,8 +5,8 @@ usage: python3 tools/respell.py [--check]     at the top of the repository, once
 
 A name is one that a file of specs/ or a lemma file of proofs/ declares, a record's field and a constructor included. Names that Rattle
 makes (the goals of a function's proof), functions of src/ and inputs keep their spelling. It goes by text alone, so look through
-strings and the library's names afterwards: it has run here, and what it garbled, one string and one name, was mended by hand. A lemma that would be spelled as the
-function whose contract it proves gets `_lem`. A definition may be spelled as a function of src/ is, since no clause can name a function.
+strings and the library's names afterwards: it has run here, and what it garbled was mended by hand (docs/PORT.md). A lemma that would
+be spelled as a function of src/ gets `_lem`. A definition may be spelled as a function of src/ is, since no clause can name a function.
 It prints each name that changes, and says where a new spelling meets another word of a file; such names are not changed, but for the
 field in MAY_MEET, which is read behind a dot alone. --check writes nothing.
 """

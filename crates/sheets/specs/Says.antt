@@ -21,7 +21,7 @@ abbrev pub spelled_all : List Saying → List ℕ
 spelled_all [] = spelled end_says
 spelled_all (r ∷ rs) = spelled r ++ spelled_all rs
 
--- a sheet says one thing
+-- a sheet says at most one thing
 abbrev pub SaysOneThing : Type 0
 SaysOneThing = (sheet : List ℕ) (t u : Told) → Says sheet t → Says sheet u → t ≡ u
 
@@ -29,6 +29,6 @@ SaysOneThing = (sheet : List ℕ) (t u : Told) → Says sheet t → Says sheet u
 abbrev pub ReadAsItSays : Type 0
 ReadAsItSays = (sheet : List ℕ) (places : ℕ) (t : Told) → read_sheet sheet places ≡ whole t → Says sheet t
 
--- a sheet is, byte for byte, the spelling of its records and of the end
+-- a sheet that says something is, byte for byte, the spelling of its records and of the end
 abbrev pub SpelledByItsRecords : Type 0
 SpelledByItsRecords = (sheet : List ℕ) (rs : List Saying) (t : Told) → Bytes sheet → Reads sheet untold 0 rs t → sheet ≡ spelled_all rs

@@ -1,7 +1,7 @@
 //! What is known of every sheet and what it says.
 ghost use Rattle.sheets.specs.Says.{SaysOneThing, ReadAsItSays, SpelledByItsRecords};
 
-/// A sheet says one thing.
+/// A sheet says at most one thing.
 pub fn a_sheet_says_one_thing()
     ensures { SaysOneThing }
 {}
@@ -11,7 +11,7 @@ pub fn sheets_are_read_as_they_say()
     ensures { ReadAsItSays }
 {}
 
-/// A sheet is, byte for byte, the spelling of its records and of the end.
+/// A sheet that says something is, byte for byte, the spelling of its records and of the end.
 pub fn sheets_are_spelled_by_their_records()
     ensures { SpelledByItsRecords }
 {}

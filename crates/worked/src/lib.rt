@@ -1,4 +1,4 @@
-//! The worked examples of the documents, shown to hold of the definitions.
+//! Worked examples, shown to hold of the definitions.
 #![tactic(auto)]
 
 ghost use Rattle.worked.specs.Worked.{Worked};
