@@ -1,6 +1,9 @@
 -- What a question asks, which answers are right, and what may be built.
 use Rattle.std.specs.Prelude.{◌≡◌, ℕ, suc, ◌+◌, ◌-◌, ◌^◌, ◌<◌, ◌≤◌, Bool, true, false, cond, ◌⊎◌, List, [], ◌∷◌, ◌++◌, length, drop, ℤ, pos, ◌+ℤ◌, ◌-ℤ◌, ◌*ℤ◌, ◌≤ℤ◌, Some, ◌≢◌, int_le, unsigned_abs}
 use Rattle.std.specs.List.{slice_get}
+use Rattle.limits.specs.declared.Sense.{Sense}
+use Rattle.limits.specs.declared.Sense.TheVariants as sense
+use Rattle.diagrams.specs.declared.Child.{Child}
 use Rattle.diagrams.specs.declared.Child.TheVariants.{Terminal, Place}
 use Rattle.diagrams.specs.declared.Node.{Node}
 use Rattle.diagrams.specs.declared.Edge.{Edge}
@@ -17,6 +20,16 @@ abbrev pub meaning : Operation → ℤ → ℤ → ℤ
 meaning AtMost a b = indicator (int_le a b)
 meaning AtLeast a b = indicator (int_le b a)
 meaning Times a b = a *ℤ b
+
+-- the operation that compares with a bound
+abbrev pub operation_of : Sense → Operation
+operation_of sense.AtMost = AtMost
+operation_of sense.AtLeast = AtLeast
+
+-- a child as a number: 0 for the terminal
+abbrev pub child_number : Child → ℕ
+child_number Terminal = 0
+child_number (Place k) = k + 1
 
 -- what an edge denotes, over the choices of the parts from i up
 abbrev pub edge_at : List Node → ℕ → Edge → List Bool → ℤ

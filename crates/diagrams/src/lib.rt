@@ -1,6 +1,12 @@
 //! Edge-valued decision diagrams: nodes, edges, and the questions that a walk answers.
 #![tactic(auto)]
 
+ghost use Rattle.std.specs.Prelude.{◌≡◌, ◌^◌, ◌≤◌, ◌<◌, ◌+ℤ◌, unsigned_abs};
+ghost use Rattle.diagrams.specs.declared.Child.TheVariants.{Terminal};
+ghost use Rattle.diagrams.specs.Apply.{child_number, plus_edge, operation_of};
+
+use limits::Sense;
+
 pub mod laws;
 
 /// What an edge leads to: the terminal, or the node at a place of a table.
@@ -8,6 +14,19 @@ pub mod laws;
 pub enum Child {
     Terminal,
     Place(u32),
+}
+
+impl Child {
+    /// The child as a number: 0 for the terminal.
+    pub fn number(self) -> usize
+        ensures is { result ≡ child_number self }
+        ensures small { result ≤ 4294967296 }
+    {
+        match self {
+            Child::Terminal => 0,
+            Child::Place(k) => k as usize + 1,
+        }
+    }
 }
 
 /// With x 1 where the part is fitted, the node denotes x(value + left) + (1 - x)right.
@@ -26,12 +45,47 @@ pub struct Edge {
     pub child: Child,
 }
 
+impl Edge {
+    /// The edge that denotes one number at every choice.
+    pub fn constant(value: i32) -> Edge
+        ensures { result ≡ record { constant = value; child = Terminal } }
+    {
+        Edge {
+            constant: value,
+            child: Child::Terminal,
+        }
+    }
+
+    /// The edge with a number added to its constant.
+    pub fn plus(self, value: i32) -> Edge
+        requires { (unsigned_abs self.constant ≤ 2 ^ 28) × (unsigned_abs value ≤ 2 ^ 29) }
+        ensures { result ≡ plus_edge self value }
+    {
+        Edge {
+            constant: self.constant + value,
+            child: self.child,
+        }
+    }
+}
+
 /// What is asked of two edges: whether one is at most or at least the other, as 1 or 0, or their product.
 #[derive(Clone, Copy, PartialEq, Eq, Drop)]
 pub enum Operation {
     AtMost,
     AtLeast,
     Times,
+}
+
+impl From<Sense> for Operation {
+    ghost from_gives = { λ sense operation. operation ≡ operation_of sense };
+
+    /// The operation that compares a sum with its bound.
+    fn from(sense: Sense) -> Operation {
+        match sense {
+            Sense::AtMost => Operation::AtMost,
+            Sense::AtLeast => Operation::AtLeast,
+        }
+    }
 }
 
 /// An operation and its two edges.

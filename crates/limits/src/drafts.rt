@@ -5,6 +5,9 @@ ghost use Rattle.limits.specs.Drafts.{tested, coefficients_after, last_after};
 
 use crate::{Limit, Refusal, Sense};
 
+/// Coefficients go so far either way.
+pub const MOST_COEFFICIENT: u32 = 1_000_000;
+
 /// A part and its coefficient.
 #[derive(Clone, Copy, Drop)]
 pub struct Term {
@@ -48,12 +51,12 @@ impl Draft {
         if term.part > 47 {
             return Err(Refusal::PartOutOfRange);
         }
-        if let Some(before) = self.last {
-            if term.part <= before {
-                return Err(Refusal::PartNotRising);
-            }
+        if let Some(before) = self.last
+            && term.part <= before
+        {
+            return Err(Refusal::PartNotRising);
         }
-        if term.coefficient < -1_000_000 || term.coefficient > 1_000_000 {
+        if term.coefficient.unsigned_abs() > MOST_COEFFICIENT {
             return Err(Refusal::OutOfRange);
         }
         self.coefficients[term.part as usize] = term.coefficient;

@@ -29,14 +29,14 @@ pub struct Limit {
 /// Why a call of a job or of a draft refuses.
 #[derive(Clone, Copy, PartialEq, Eq, Debug, Drop)]
 pub enum Refusal {
-    PartOutOfRange,
-    PartNotRising,
-    OutOfRange,
-    WrongCount,
-    TooFewRows,
-    NothingStands,
-    TooManyLimits,
-    TooFewPlaces,
+    PartOutOfRange = 7,
+    PartNotRising = 8,
+    OutOfRange = 9,
+    WrongCount = 10,
+    TooFewRows = 11,
+    NothingStands = 12,
+    TooManyLimits = 14,
+    TooFewPlaces = 15,
 }
 
 impl Refusal {
@@ -44,16 +44,7 @@ impl Refusal {
     pub fn number(self) -> u8
         ensures { result ≡ number self }
     {
-        match self {
-            Refusal::PartOutOfRange => 7,
-            Refusal::PartNotRising => 8,
-            Refusal::OutOfRange => 9,
-            Refusal::WrongCount => 10,
-            Refusal::TooFewRows => 11,
-            Refusal::NothingStands => 12,
-            Refusal::TooManyLimits => 14,
-            Refusal::TooFewPlaces => 15,
-        }
+        self as u8
     }
 }
 
