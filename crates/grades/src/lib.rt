@@ -7,6 +7,9 @@ ghost use Rattle.grades.specs.Kinds.{Priced, priced, mass_kind, wait_kind, mass_
 ghost use Rattle.grades.specs.Optimal.{RuleIsFirst, RuleSettles, BestIsBest, SizesStay};
 ghost use Rattle.grades.specs.Lawful.{mass_laws, wait_laws, mass_price_laws};
 
+// The grade of a weight has at most this size.
+const MOST_SIZE: u32 = 1_000_000;
+
 /// A kind of grade.
 pub trait Grade: Copy {
     /// What a part weighs.
@@ -29,7 +32,7 @@ pub trait Grade: Copy {
 
     ghost kind: { Kind Meaning };
 
-    /// The number of the kind.
+    /// The number of the kind. Each kind writes its body, since no clause can cite an associated constant and so none could prove it here.
     fn kind_code() -> u8
         ensures { result ≡ number };
 
@@ -53,7 +56,7 @@ pub trait Grade: Copy {
 }
 
 /// The fitted parts' grams, added up.
-#[derive(Clone, Copy)]
+#[derive(Clone, Copy, PartialEq, Eq, Debug, Drop)]
 pub struct Mass {
     pub grams: i32,
 }
@@ -84,11 +87,7 @@ impl Grade for Mass {
     }
 
     fn of_weight(weight: &i32) -> Option<Mass> {
-        if *weight < -1_000_000 || *weight > 1_000_000 {
-            None
-        } else {
-            Some(Mass { grams: *weight })
-        }
+        (weight.unsigned_abs() <= MOST_SIZE).then_some(Mass { grams: *weight })
     }
 
     fn join(&self, other: &Mass) -> Mass {
@@ -103,7 +102,7 @@ impl Grade for Mass {
 }
 
 /// The longest wait for a fitted part, in days.
-#[derive(Clone, Copy)]
+#[derive(Clone, Copy, PartialEq, Eq, Debug, Drop)]
 pub struct Wait {
     pub days: u32,
 }
@@ -134,11 +133,7 @@ impl Grade for Wait {
     }
 
     fn of_weight(weight: &u32) -> Option<Wait> {
-        if *weight > 1_000_000 {
-            None
-        } else {
-            Some(Wait { days: *weight })
-        }
+        (*weight <= MOST_SIZE).then_some(Wait { days: *weight })
     }
 
     fn join(&self, other: &Wait) -> Wait {
@@ -153,7 +148,7 @@ impl Grade for Wait {
 }
 
 /// The fitted parts' grams and prices, added up; the price ranks those of equal grams.
-#[derive(Clone, Copy)]
+#[derive(Clone, Copy, PartialEq, Eq, Debug, Drop)]
 pub struct MassPrice {
     pub grams: i32,
     pub price: u32,
@@ -186,11 +181,10 @@ impl Grade for MassPrice {
 
     fn of_weight(weight: &(i32, u32)) -> Option<MassPrice> {
         let (grams, price) = *weight;
-        if grams < -1_000_000 || grams > 1_000_000 || price > 1_000_000 {
-            None
-        } else {
-            Some(MassPrice { grams, price })
-        }
+        (grams.unsigned_abs() <= MOST_SIZE && price <= MOST_SIZE).then_some(MassPrice {
+            grams,
+            price,
+        })
     }
 
     fn join(&self, other: &MassPrice) -> MassPrice {
