@@ -1,2 +1,3 @@
+mod Taken
 pub mod Coefficients
 pub mod Words

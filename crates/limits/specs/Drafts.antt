@@ -1,5 +1,7 @@
 -- What a term does to a draft.
-use Rattle.std.specs.Prelude.{ℕ, Bool, true, cond, List, ℤ, Some, None, Option, nat_le, nat_lt, slice_set, unsigned_abs}
+use Rattle.std.specs.Prelude.{◌≡◌, ℕ, Bool, true, cond, List, [], ◌∷◌, replicate, ℤ, pos, Some, None, Option, nat_le, nat_lt, slice_set, unsigned_abs}
+use Rattle.std.specs.Iterator.{YieldsThen}
+use Rattle.limits.specs.declared.drafts.Term.{Term}
 use Rattle.limits.specs.Refusals.{Reply, done, refused}
 
 -- the part is above the highest one named before
@@ -20,3 +22,32 @@ coefficients_after (refused n) cs part a = cs
 abbrev pub last_after : Reply → Option ℕ → ℕ → Option ℕ
 last_after done last part = Some part
 last_after (refused n) last part = last
+
+-- a draft: its coefficients, and the highest part that a term names
+pub record Drafted : Type 0 where
+  pub coefficients : List ℤ
+  pub last : Option ℕ
+
+-- the draft of these coefficients and this highest part
+abbrev pub drafted : List ℤ → Option ℕ → Drafted
+drafted cs last = record { coefficients = cs; last = last }
+
+-- a draft that is just opened
+abbrev pub opened : Drafted
+opened = drafted (replicate 48 (pos 0)) None
+
+-- a draft after a term; a refused term leaves it as it was
+abbrev pub with_term : Drafted → Term → Drafted
+with_term d t = drafted
+    (coefficients_after (tested d.last t.part t.coefficient) d.coefficients t.part t.coefficient)
+    (last_after (tested d.last t.part t.coefficient) d.last t.part)
+
+-- a draft after terms, one by one
+abbrev pub with_terms : Drafted → List Term → Drafted
+with_terms d [] = d
+with_terms d (t ∷ ts) = with_terms (with_term d t) ts
+
+-- the draft of the terms that an iterator gives until it gives none
+abbrev pub DraftOf : {I : Type 0} → (I → Option Term → I → Type 0) → I → List ℤ → Option ℕ → Type 0
+DraftOf {I} gives it coefficients last =
+    (ts : List Term) × (rest : I) × YieldsThen gives it ts None rest × (with_terms opened ts ≡ drafted coefficients last)

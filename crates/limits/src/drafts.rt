@@ -1,7 +1,8 @@
 //! A limit in the making.
 ghost use Rattle.std.specs.Prelude.{◌≡◌, ℕ, ◌≤◌, length, replicate, pos, None, slice_index_or, unsigned_abs};
+ghost use Rattle.std.specs.Iterator.{IsFinite};
 ghost use Rattle.limits.specs.Refusals.{told};
-ghost use Rattle.limits.specs.Drafts.{tested, coefficients_after, last_after};
+ghost use Rattle.limits.specs.Drafts.{tested, coefficients_after, last_after, DraftOf};
 
 use crate::{Limit, Refusal, Sense};
 
@@ -62,6 +63,19 @@ impl Draft {
         self.coefficients[term.part as usize] = term.coefficient;
         self.last = Some(term.part);
         Ok(())
+    }
+
+    /// A draft that has taken terms, one after another; a refused one leaves it as it was.
+    pub fn of_terms<I: Iterator<Item = Term> + Drop>(terms: I) -> Draft
+        requires can { I.can_next terms }
+        requires ends { IsFinite (I.remaining terms) }
+        ensures { DraftOf I.next_gives terms result.coefficients result.last }
+    {
+        let mut draft = Draft::open();
+        for term in terms {
+            let _ = draft.term(term);
+        }
+        draft
     }
 
     /// The highest part that a term names, whatever its coefficient.
