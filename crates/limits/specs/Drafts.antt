@@ -1,6 +1,6 @@
 -- What a term does to a draft.
 use Rattle.std.specs.Prelude.{◌≡◌, ℕ, Bool, true, cond, List, [], ◌∷◌, replicate, ℤ, pos, Some, None, Option, nat_le, nat_lt, slice_set, unsigned_abs}
-use Rattle.std.specs.Iterator.{YieldsThen}
+use Rattle.std.specs.Iterator.Runs.{WholeRun}
 use Rattle.limits.specs.declared.drafts.Term.{Term}
 use Rattle.limits.specs.Refusals.{Reply, done, refused}
 
@@ -49,5 +49,4 @@ with_terms d (t ∷ ts) = with_terms (with_term d t) ts
 
 -- the draft of the terms that an iterator gives until it gives none
 abbrev pub DraftOf : {I : Type 0} → (I → Option Term → I → Type 0) → I → List ℤ → Option ℕ → Type 0
-DraftOf {I} gives it coefficients last =
-    (ts : List Term) × (rest : I) × YieldsThen gives it ts None rest × (with_terms opened ts ≡ drafted coefficients last)
+DraftOf gives it coefficients last = WholeRun gives it (λ p. with_terms opened p.items ≡ drafted coefficients last)

@@ -1,5 +1,5 @@
 -- Why the answers of a log are right.
-use Rattle.std.proofs.Common.{◌≡◌, ℕ, ◌<◌, Bool, true, false, cond, ltb, leb, List, [], ◌∷◌, ◌++◌, map, length, ℤ, nat_abs, Some, None, Option, sym, refl, ap, ◌∙◌, subst, ap₂, arith, Bor}
+use Rattle.std.proofs.Common.{◌≡◌, ℕ, ◌<◌, Bool, true, false, cond, ltb, leb, List, [], ◌∷◌, ◌++◌, length, nat_abs, Some, None, Option, Ok, Err, sym, refl, ap, ◌∙◌, subst, ap₂, arith}
 use Rattle.std.proofs.lemmas.Bool.{and_parts, leb-false, lt-ltb, lt-leb}
 use Rattle.limits.specs.declared.Limit.{Limit}
 use Rattle.limits.specs.declared.drafts.Term.{Term}
@@ -12,25 +12,19 @@ use Rattle.grades.specs.Rule.{best, chosen}
 use Rattle.grades.specs.Optimal.{Answers, Settled}
 use Rattle.grades.proofs.Optimal.{rule_is_first_lem, rule_settles_lem}
 use Rattle.diagrams.specs.Needs.{needs}
-use Rattle.solving.specs.Settling.{Solved}
+use Rattle.solving.specs.Settling as settling
 use Rattle.solving.specs.declared.Answer.{Answer}
 use Rattle.jobs.specs.Calls.{Standing, closed, tested, and_then, named_below}
 use Rattle.logs.specs.Drafted.{named, limit_of}
-use Rattle.logs.specs.Logs.{Says, RefusedForPlaces, Finds, Lent, SolveRight, SolvedRight, by_mass, by_wait}
-use Rattle.logs.specs.declared.Weights.{Weights}
-use Rattle.logs.specs.declared.Weights.TheVariants as weights
-use Rattle.grades.specs.declared.Mass.{Mass}
-use Rattle.grades.specs.declared.Wait.{Wait}
-use Rattle.grades.specs.Kinds.{mass_kind, wait_kind}
-use Rattle.logs.specs.declared.Reply.{Reply}
-use Rattle.logs.specs.declared.Reply.TheVariants as reply
+use Rattle.logs.specs.Logs.{Says, RefusedForPlaces, Finds, Reply}
+use Rattle.logs.specs.declared.Answered.TheVariants.{Done, Solved, Checked}
 
 -- an answer has one reply
 pub one_reply : {G : Type 0} (r : Reply G) (x y : refusals.Reply) → Says r x → Says r y → x ≡ y
-one_reply reply.Done x y p q = sym p ∙ q
-one_reply (reply.Refused e) x y p q = sym p ∙ q
-one_reply (reply.Solved f) x y p q = absurd p
-one_reply (reply.Checked o) x y p q = absurd p
+one_reply (Ok Done) x y p q = sym p ∙ q
+one_reply (Ok (Solved f)) x y p q = absurd p
+one_reply (Ok (Checked o)) x y p q = absurd p
+one_reply (Err e) x y p q = sym p ∙ q
 
 fewer : (needed places : ℕ) (b : Bool) → leb needed places ≡ b → cond b done (refused 15) ≡ refused 15 → places < needed
 fewer needed places true e h = let z : ◌≡◌ {A = ℕ} 0 1 = cc in absurd (omega arith)
@@ -56,7 +50,7 @@ module _ {V G : Type 0} (k : Kind V) (laws : Laws k) (means : G → V) (vs : Lis
   chosen_is c (Some g) e = cc
 
   -- what the rule answers is first among the choices that keep all limits, and settled
-  pub finds : (o : Option (Answer G)) → Solved k means vs (keeps_all ls) o → Finds k means vs ls o
+  pub finds : (o : Option (Answer G)) → settling.Solved k means vs (keeps_all ls) o → Finds k means vs ls o
   finds None h = subst (Answers k vs (keeps_all ls)) h (rule_is_first_lem k laws vs (keeps_all ls))
   finds (Some a) (c, e, w, g) = (
     c,
@@ -65,19 +59,3 @@ module _ {V G : Type 0} (k : Kind V) (laws : Laws k) (means : G → V) (vs : Lis
     w,
     g,
   )
-
-pub map_same : {A : Type 0} (xs : List A) → map (λ x. x) xs ≡ xs
-map_same [] = refl
-map_same (x ∷ xs) = ap (λ ys. x ∷ ys) (map_same xs)
-
--- a solve by mass or by wait, whose weights are their own grades
-module _ {V G W : Type 0} (K : Kind V) (means : G → V) (weighs : W → V) (rows : Lent) (s : Standing) (ws : Weights W) (r : Reply G) where
-  pub right_by_mass : (m : Bor (List ℤ)) → ws ≡ weights.Mass m → SolveRight mass_kind (λ (g : Mass). g.grams) by_mass (map (λ w. w) m.now) rows.mass s r → SolvedRight K means weighs rows s ws r
-  right_by_mass m is h =
-      subst (λ (x : Weights W). SolvedRight K means weighs rows s x r) (sym is)
-      (subst (λ xs. SolveRight mass_kind (λ (g : Mass). g.grams) by_mass xs rows.mass s r) (map_same m.now) h)
-
-  pub right_by_wait : (m : Bor (List ℕ)) → ws ≡ weights.Wait m → SolveRight wait_kind (λ (g : Wait). g.days) by_wait (map (λ w. w) m.now) rows.wait s r → SolvedRight K means weighs rows s ws r
-  right_by_wait m is h =
-      subst (λ (x : Weights W). SolvedRight K means weighs rows s x r) (sym is)
-      (subst (λ xs. SolveRight wait_kind (λ (g : Wait). g.days) by_wait xs rows.wait s r) (map_same m.now) h)

@@ -1,3 +1,2 @@
-pub mod Drafting
 pub mod Answering
 pub mod Running

@@ -3,9 +3,8 @@ use Rattle.std.proofs.Common.{◌≡◌, ℕ, zero, suc, ◌+◌, ◌<◌, List,
 use Rattle.std.proofs.lemmas.List.{drop_more, drop_all}
 use Rattle.grades.specs.Laws.{Kind}
 use Rattle.jobs.specs.Calls.{Standing, standing}
-use Rattle.logs.specs.Logs.{after, Lent, Right, RightLog}
+use Rattle.logs.specs.Logs.{after, Lent, Reply, Right, RightLog}
 use Rattle.logs.specs.declared.Call.{Call}
-use Rattle.logs.specs.declared.Reply.{Reply}
 
 take_set : {A : Type 0} (xs : List A) (i : ℕ) (y : A) → i < length xs → take (suc i) (set xs i y) ≡ take i xs ++ (y ∷ [])
 take_set [] i y h = absurd (omega arith)

@@ -1,10 +1,11 @@
 -- A log of the calls made of one job since it was new, with the answer to each, and when it is right.
-use Rattle.std.specs.Prelude.{◌≡◌, ℕ, ◌<◌, Bool, true, ◌↔◌, List, [], ◌∷◌, ◌++◌, map, length, take, drop, ℤ, Some, None, Option, Result, MatchResult}
+use Rattle.std.specs.Prelude.{◌≡◌, ℕ, ◌<◌, Bool, true, ◌↔◌, List, [], ◌∷◌, ◌++◌, map, length, take, drop, ℤ, Some, None, Option, Ok, Err, Result, MatchResult}
 use Rattle.limits.specs.declared.Limit.{Limit}
 use Rattle.limits.specs.declared.drafts.Term.{Term}
 use Rattle.limits.specs.declared.drafts.Side.{Side}
 use Rattle.limits.specs.Choices.{bits, word}
 use Rattle.limits.specs.Limits.{keeps_all}
+use Rattle.limits.specs.declared.Refusal.{Refusal}
 use Rattle.limits.specs.Refusals.{done, refused, number}
 use Rattle.limits.specs.Refusals as refusals
 use Rattle.grades.specs.Laws.{Kind}
@@ -24,8 +25,8 @@ use Rattle.logs.specs.declared.Weights.{Weights}
 use Rattle.logs.specs.declared.Weights.TheVariants as weights
 use Rattle.logs.specs.declared.Found.{Found}
 use Rattle.logs.specs.declared.Found.TheVariants as found
-use Rattle.logs.specs.declared.Reply.{Reply}
-use Rattle.logs.specs.declared.Reply.TheVariants.{Done, Refused, Solved, Checked}
+use Rattle.logs.specs.declared.Answered.{Answered}
+use Rattle.logs.specs.declared.Answered.TheVariants.{Done, Solved, Checked}
 use Rattle.logs.specs.declared.LogRows.{LogRows}
 use Rattle.logs.specs.declared.ReplayRefusal.{ReplayRefusal}
 use Rattle.logs.specs.declared.ReplayRefusal.TheVariants.{RepliesTooShort}
@@ -38,12 +39,16 @@ after places s TakeBack = after_take_back s
 after places s (Solve ws) = s
 after places s (Check c) = s
 
+-- the answer to a call
+abbrev pub Reply : Type 0 → Type 0
+Reply G = Result (Answered G) Refusal
+
 -- the answer is this reply, and nothing more
 abbrev pub Says : {G : Type 0} → Reply G → refusals.Reply → Type 0
-Says Done r = done ≡ r
-Says (Refused e) r = refused (number e) ≡ r
-Says (Solved f) r = ⊥
-Says (Checked o) r = ⊥
+Says (Ok Done) r = done ≡ r
+Says (Ok (Solved f)) r = ⊥
+Says (Ok (Checked o)) r = ⊥
+Says (Err e) r = refused (number e) ≡ r
 
 -- a close of a sound limit, with fewer than 64 standing before it, is refused for want of places exactly when that limit and the
 -- standing ones need more different nodes than the table has places
@@ -102,17 +107,17 @@ FoundRight K means vs ls (Some o) = Finds K means vs ls o
 
 -- the answer to a solve by one kind: refused by its tests, or right
 abbrev pub SolveRight : {V K G : Type 0} → Kind V → (K → V) → (Found G → Option (Option (Answer K))) → List V → ℕ → Standing → Reply G → Type 0
-SolveRight k means picked vs rows s Done = ⊥
-SolveRight k means picked vs rows s (Refused e) = refused (number e) ≡ asked k s vs rows
-SolveRight k means picked vs rows s (Solved f) = (done ≡ asked k s vs rows) × FoundRight k means vs s.limits (picked f)
-SolveRight k means picked vs rows s (Checked o) = ⊥
+SolveRight k means picked vs rows s (Ok Done) = ⊥
+SolveRight k means picked vs rows s (Ok (Solved f)) = (done ≡ asked k s vs rows) × FoundRight k means vs s.limits (picked f)
+SolveRight k means picked vs rows s (Ok (Checked o)) = ⊥
+SolveRight k means picked vs rows s (Err e) = refused (number e) ≡ asked k s vs rows
 
 -- the answer to a check: refused by its test, or the first standing limit that the choice breaks, or none
 abbrev pub CheckRight : {G : Type 0} → Standing → ℕ → Reply G → Type 0
-CheckRight s w Done = ⊥
-CheckRight s w (Refused e) = refused (number e) ≡ checkable s.parts w
-CheckRight s w (Solved f) = ⊥
-CheckRight s w (Checked o) = (done ≡ checkable s.parts w) × (broken 0 s.limits (bits s.parts w) ≡ o)
+CheckRight s w (Ok Done) = ⊥
+CheckRight s w (Ok (Solved f)) = ⊥
+CheckRight s w (Ok (Checked o)) = (done ≡ checkable s.parts w) × (broken 0 s.limits (bits s.parts w) ≡ o)
+CheckRight s w (Err e) = refused (number e) ≡ checkable s.parts w
 
 -- the number of a replay's one refusal: the output is too short
 abbrev pub replay_number : ReplayRefusal → ℕ

@@ -3,11 +3,10 @@
 
 ghost use Rattle.std.specs.Prelude.{◌≡◌, ◌<◌, min, map, length, IfOk, slice_index_or, slice_set};
 ghost use Rattle.limits.specs.Refusals.{told};
-ghost use Rattle.jobs.specs.Calls.{asked};
+ghost use Rattle.jobs.specs.Calls.{closed, after_close, asked};
 ghost use Rattle.jobs.specs.Stands.{stands, places};
-ghost use Rattle.logs.specs.Drafted.{opened, with_terms};
-ghost use Rattle.logs.specs.declared.Call.TheVariants.{TakeBack};
-ghost use Rattle.logs.specs.Logs.{after, Says, Finds, lent, SolvedRight, Right, Replayed};
+ghost use Rattle.logs.specs.Drafted.{named, limit_of};
+ghost use Rattle.logs.specs.Logs.{after, Finds, lent, SolvedRight, Right, Replayed};
 
 use grades::{Grade, Mass, MassPrice, Wait};
 use jobs::Job;
@@ -46,14 +45,16 @@ pub enum Found<G> {
     Own(Option<Answer<G>>),
 }
 
-/// The answer to a call: done, refused, what a solve finds, or the first limit that a choice breaks.
+/// What a call answers that is not refused: that it is done, what a solve finds, or the first limit that a choice breaks.
 #[derive(Clone, Copy)]
-pub enum Reply<G> {
+pub enum Answered<G> {
     Done,
-    Refused(Refusal),
     Solved(Found<G>),
     Checked(Option<usize>),
 }
+
+/// The answer to a call.
+pub type Reply<G> = Result<Answered<G>, Refusal>;
 
 /// Why a log is not run.
 #[derive(Clone, Copy, PartialEq, Eq, Debug, Drop)]
@@ -68,28 +69,6 @@ pub struct LogRows<'a, G> {
     pub wait: &'a mut [Row<Wait>],
     pub mass_price: &'a mut [Row<MassPrice>],
     pub own: &'a mut [Row<G>],
-}
-
-// The draft that the terms make.
-fn drafted(terms: &[Term]) -> Draft
-    ensures coefficients { result.coefficients ≡ (with_terms opened terms.now).coefficients }
-    ensures last { result.last ≡ (with_terms opened terms.now).last }
-{
-    let mut draft = Draft::open();
-    for next in terms {
-        let _ = draft.term(*next);
-    }
-    draft
-}
-
-// The answer of a call that has nothing to say but whether it is done.
-fn reply_of<G: Grade>(res: Result<(), Refusal>) -> Reply<G>
-    ensures { Says result (told res) }
-{
-    match res {
-        Ok(()) => Reply::Done,
-        Err(refusal) => Reply::Refused(refusal),
-    }
 }
 
 // Solves by one kind, in lent rows.
@@ -110,24 +89,27 @@ fn solved<G: Grade>(job: &Job, weights: &Weights<G::Weight>, rows: &mut LogRows<
     ensures right { SolvedRight G.kind G.means G.weighs (lent rows.old) (stands job.now) weights.now result }
     ensures lent { lent rows.new ≡ lent rows.old }
 {
-    match weights {
-        Weights::Mass(masses) => match solved_by(job, masses, rows.mass) {
-            Ok(answer) => Reply::Solved(Found::Mass(answer)),
-            Err(refusal) => Reply::Refused(refusal),
-        },
-        Weights::Wait(waits) => match solved_by(job, waits, rows.wait) {
-            Ok(answer) => Reply::Solved(Found::Wait(answer)),
-            Err(refusal) => Reply::Refused(refusal),
-        },
-        Weights::MassPrice(costs) => match solved_by(job, costs, rows.mass_price) {
-            Ok(answer) => Reply::Solved(Found::MassPrice(answer)),
-            Err(refusal) => Reply::Refused(refusal),
-        },
-        Weights::Own(own) => match solved_by(job, own, rows.own) {
-            Ok(answer) => Reply::Solved(Found::Own(answer)),
-            Err(refusal) => Reply::Refused(refusal),
-        },
-    }
+    let found = match weights {
+        Weights::Mass(masses) => Found::Mass(solved_by(job, masses, rows.mass)?),
+        Weights::Wait(waits) => Found::Wait(solved_by(job, waits, rows.wait)?),
+        Weights::MassPrice(costs) => Found::MassPrice(solved_by(job, costs, rows.mass_price)?),
+        Weights::Own(own) => Found::Own(solved_by(job, own, rows.own)?),
+    };
+    Ok(Answered::Solved(found))
+}
+
+// Closes the limit that terms make, of which refused ones leave the draft as it was.
+fn close<M: Memory>(
+    job: &mut Job,
+    terms: &[Term],
+    side: Side,
+    memory: &mut M,
+) -> Result<(), Refusal>
+    ensures reply { told result ≡ closed (places job.old) (stands job.old) (named terms.now) (limit_of terms.now side) }
+    ensures stands { stands job.new ≡ after_close (places job.old) (stands job.old) (named terms.now) (limit_of terms.now side) }
+    ensures places { places job.new ≡ places job.old }
+{
+    job.close(Draft::of_terms(terms.iter().copied()), side, memory)
 }
 
 // Makes one call of the job.
@@ -143,31 +125,13 @@ fn perform<M: Memory, G: Grade>(
     ensures lent { lent rows.new ≡ lent rows.old }
 {
     match call {
-        Call::Begin(parts) => reply_of(job.begin(*parts)),
-        Call::Close(terms, side) => reply_of(job.close(drafted(terms), *side, memory)),
-        Call::TakeBack => reply_of(job.take_back()),
-        Call::Solve(weights) => solved(job, weights, rows),
-        Call::Check(choice) => match job.check(*choice) {
-            Ok(first) => Reply::Checked(first),
-            Err(refusal) => Reply::Refused(refusal),
-        },
+        Call::Begin(parts) => job.begin(*parts)?,
+        Call::Close(terms, side) => close(job, terms, *side, memory)?,
+        Call::TakeBack => job.take_back()?,
+        Call::Solve(weights) => return solved(job, weights, rows),
+        Call::Check(choice) => return Ok(Answered::Checked(job.check(*choice)?)),
     }
-}
-
-// Call i.
-fn call_at<'a, 'b, W>(calls: &'a [Call<'b, W>], i: usize) -> &'a Call<'b, W>
-    requires { i < length calls.now }
-    ensures { result.now ≡ slice_index_or calls.now i TakeBack }
-{
-    &calls[i]
-}
-
-// Puts the answer to call i into its place.
-fn put<G: Grade>(replies: &mut [Reply<G>], i: usize, reply: Reply<G>)
-    requires { i < length replies.old }
-    ensures { replies.new ≡ slice_set replies.old i reply }
-{
-    replies[i] = reply;
+    Ok(Answered::Done)
 }
 
 /// Makes the calls of a new job over the lent places, one after another, and puts the answer to each into its place among the replies; what
@@ -185,9 +149,8 @@ pub fn replay<M: Memory, G: Grade>(
         return Err(ReplayRefusal::RepliesTooShort);
     }
     let mut job = Job::new(node_places);
-    for i in 0..calls.len() {
-        let reply = perform(&mut job, call_at(calls, i), rows, memory);
-        put(replies, i, reply);
+    for (i, call) in calls.iter().enumerate() {
+        replies[i] = perform(&mut job, call, rows, memory);
     }
     Ok(())
 }
