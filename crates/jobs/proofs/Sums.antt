@@ -1,12 +1,11 @@
 -- A limit's sum, part by part.
-use Rattle.std.proofs.Common.{◌≡◌, ℕ, zero, suc, ◌+◌, ◌-◌, ◌*◌, ◌/◌, ◌%◌, ◌^◌, ◌<◌, ◌≤◌, Bool, true, false, cond, eqb, List, [], ◌∷◌, length, get_or, take, drop, ℤ, pos, ◌+ℤ◌, nat_abs, Some, None, Option, sym, refl, ap, ◌∙◌, ap₂, add-one, arith, w64, SFits, to_z, of_z}
+use Rattle.std.proofs.Common.{◌≡◌, ℕ, zero, suc, ◌+◌, ◌-◌, ◌*◌, ◌/◌, ◌%◌, ◌^◌, ◌<◌, ◌≤◌, Bool, true, false, cond, eqb, List, [], ◌∷◌, map, length, get_or, take, drop, ℤ, pos, ◌+ℤ◌, nat_abs, Some, None, Option, sym, refl, ap, ◌∙◌, ap₂, add-one, arith, w64, SFits, to_z, of_z}
 use lib.IntN.{+ℤ_idr, +ℤ_assoc}
 use Rattle.std.proofs.lemmas.Int.{ints, to_z-of_z}
 use Rattle.std.proofs.lemmas.List.{drop_all, drop_more, get_or-map, length-map}
 use Rattle.limits.specs.Limits.{sum, keeps}
 use Rattle.limits.specs.Choices.{bits}
 use Rattle.jobs.specs.Calls.{broken}
-use Rattle.jobs.specs.Books.{limits_of, blank}
 use Rattle.jobs.specs.declared.ledger.Record.{Record}
 
 sum_none : (c : List Bool) → sum [] c ≡ pos 0
@@ -36,6 +35,12 @@ finished cs parts k rest total v h inv =
     let none : parts - k ≡ 0 = omega arith in
     sym (ap (λ z. total +ℤ z) (ap (λ m. sum (drop k cs) (bits m rest)) none ∙ sum_empty (drop k cs)) ∙ +ℤ_idr total) ∙ inv
 
+-- the coefficients past the parts of a choice add nothing
+pub sum_taken : (cs : List ℤ) (parts w : ℕ) → parts ≤ length cs → sum (take parts cs) (bits (length (take parts cs)) w) ≡ sum cs (bits parts w)
+sum_taken cs zero w h = sym (sum_empty cs)
+sum_taken [] (suc parts) w h = absurd (omega arith)
+sum_taken (a ∷ cs) (suc parts) w h = ap (λ z. cond (eqb (w % 2) 1) a (pos 0) +ℤ z) (sum_taken cs parts (w / 2) (omega arith))
+
 pub abs_sum : (k parts : ℕ) (total add : ℤ) → nat_abs total ≤ k * 2 ^ 31 → nat_abs add ≤ 2 ^ 31 → nat_abs (total +ℤ add) ≤ (k + 1) * 2 ^ 31
 abs_sum k parts total add s t = omega (arith, ints)
 
@@ -55,27 +60,21 @@ module _ (i parts : ℕ) (z total add : ℤ) (e : z ≡ total) (s : nat_abs tota
   pub sum_small : nat_abs (to_z w64 (of_z w64 (z +ℤ to_z w64 (of_z w64 add)))) ≤ (i + 1) * 2 ^ 31
   sum_small = rw sum_is (abs_sum i parts total add s t)
 
--- the limits, one by one
-get_d_take : {X : Type 0} (xs : List X) (n i : ℕ) (d : X) → i < n → get_or (take n xs) i d ≡ get_or xs i d
-get_d_take [] zero i d h = refl
-get_d_take [] (suc n) i d h = refl
-get_d_take (x ∷ xs) zero i d h = absurd (omega arith)
-get_d_take (x ∷ xs) (suc n) zero d h = refl
-get_d_take (x ∷ xs) (suc n) (suc i) d h = get_d_take xs n i d (omega arith)
+-- the limits of records, one by one; d is what stands past the last
+limits_at : (xs : List Record) (i : ℕ) (d : Record) → i < length xs → drop i (map (λ (r : Record). r.limit) xs) ≡ (get_or xs i d).limit ∷ drop (i + 1) (map (λ (r : Record). r.limit) xs)
+limits_at xs i d h =
+    drop_more (map (λ (r : Record). r.limit) xs) i d.limit (omega (arith, length-map xs (λ (r : Record). r.limit)))
+    ∙ ap (λ x. x ∷ drop (i + 1) (map (λ (r : Record). r.limit) xs)) (get_or-map (λ (r : Record). r.limit) xs i d d.limit h)
 
-limits_at : (rs : List Record) (count i : ℕ) → i < length (limits_of rs count) → i < count → drop i (limits_of rs count) ≡ (get_or rs i blank).limit ∷ drop (i + 1) (limits_of rs count)
-limits_at rs count i h l =
-    drop_more (limits_of rs count) i blank.limit h
-    ∙ ap (λ x. x ∷ drop (i + 1) (limits_of rs count)) (get_or-map (λ (r : Record). r.limit) (take count rs) i blank blank.limit (omega (arith, length-map (take count rs) (λ (r : Record). r.limit))) ∙ ap (λ (r : Record). r.limit) (get_d_take rs count i blank l))
+module _ (xs : List Record) (i : ℕ) (c : List Bool) (o : Option ℕ) (e : o ≡ broken i (drop i (map (λ (r : Record). r.limit) xs)) c) where
+  pub broken_more : (d : Record) → i < length xs → keeps (get_or xs i d).limit c ≡ true → o ≡ broken (i + 1) (drop (i + 1) (map (λ (r : Record). r.limit) xs)) c
+  broken_more d h k =
+      e ∙ (ap (λ ls. broken i ls c) (limits_at xs i d h)
+      ∙ (ap (λ b. cond b (broken (suc i) (drop (i + 1) (map (λ (r : Record). r.limit) xs)) c) (Some i)) k ∙ ap (λ j. broken j (drop (i + 1) (map (λ (r : Record). r.limit) xs)) c) (sym (add-one i))))
 
-pub broken_more : (rs : List Record) (count i : ℕ) (c : List Bool) (o : Option ℕ) → i < length (limits_of rs count) → i < count → o ≡ broken i (drop i (limits_of rs count)) c → keeps (get_or rs i blank).limit c ≡ true → o ≡ broken (i + 1) (drop (i + 1) (limits_of rs count)) c
-broken_more rs count i c o h l e k =
-    e ∙ (ap (λ ls. broken i ls c) (limits_at rs count i h l)
-    ∙ (ap (λ b. cond b (broken (suc i) (drop (i + 1) (limits_of rs count)) c) (Some i)) k ∙ ap (λ j. broken j (drop (i + 1) (limits_of rs count)) c) (sym (add-one i))))
+  pub broken_here : (d : Record) → i < length xs → keeps (get_or xs i d).limit c ≡ false → o ≡ Some i
+  broken_here d h k =
+      e ∙ (ap (λ ls. broken i ls c) (limits_at xs i d h) ∙ ap (λ b. cond b (broken (suc i) (drop (i + 1) (map (λ (r : Record). r.limit) xs)) c) (Some i)) k)
 
-pub broken_here : (rs : List Record) (count i : ℕ) (c : List Bool) (o : Option ℕ) → i < length (limits_of rs count) → i < count → o ≡ broken i (drop i (limits_of rs count)) c → keeps (get_or rs i blank).limit c ≡ false → o ≡ Some i
-broken_here rs count i c o h l e k =
-    e ∙ (ap (λ ls. broken i ls c) (limits_at rs count i h l) ∙ ap (λ b. cond b (broken (suc i) (drop (i + 1) (limits_of rs count)) c) (Some i)) k)
-
-pub broken_none : (rs : List Record) (count i : ℕ) (c : List Bool) (o : Option ℕ) → length (limits_of rs count) ≤ i → o ≡ broken i (drop i (limits_of rs count)) c → o ≡ None
-broken_none rs count i c o h e = e ∙ ap (λ ls. broken i ls c) (drop_all i (limits_of rs count) h)
+  pub broken_none : length xs ≤ i → o ≡ None
+  broken_none h = e ∙ ap (λ ls. broken i ls c) (drop_all i (map (λ (r : Record). r.limit) xs) (omega (arith, length-map xs (λ (r : Record). r.limit))))

@@ -12,7 +12,7 @@ use crate::Job;
 use crate::ledger::{Ledger, RECORDS};
 use crate::weighing::in_range;
 use grades::Grade;
-use limits::drafts::{Draft, Side};
+use limits::drafts::{Draft, MOST_BOUND, Side};
 use limits::{Choice, Limit, Refusal};
 use memories::Memory;
 use rows::Rows;
@@ -24,13 +24,13 @@ use walks::extend;
 fn tested(parts: u8, count: usize, named: Option<u8>, limit: &Limit) -> Result<(), Refusal>
     ensures { told result ≡ tests_of parts count named limit.now.bound }
 {
-    if limit.bound < -100_000_000 || limit.bound > 100_000_000 {
+    if limit.bound.unsigned_abs() > MOST_BOUND {
         return Err(Refusal::OutOfRange);
     }
-    if let Some(part) = named {
-        if part >= parts {
-            return Err(Refusal::PartOutOfRange);
-        }
+    if let Some(part) = named
+        && part >= parts
+    {
+        return Err(Refusal::PartOutOfRange);
     }
     if count >= RECORDS {
         return Err(Refusal::TooManyLimits);
@@ -68,7 +68,7 @@ impl<'a> Job<'a> {
             return Err(Refusal::PartOutOfRange);
         }
         self.parts = parts;
-        self.ledger.count = 0;
+        self.ledger.drop_all();
         self.table.clear();
         Ok(())
     }
@@ -86,18 +86,14 @@ impl<'a> Job<'a> {
     {
         let last = draft.last();
         let limit = draft.finish(side);
-        if let Err(e) = tested(self.parts, self.ledger.count, last, &limit) {
-            return Err(e);
-        }
+        tested(self.parts, self.ledger.count, last, &limit)?;
         let mark = self.table.used();
         let product = self.ledger.product();
-        match extend(&mut self.table, self.parts, product, &limit, memory) {
-            Some(edge) => {
-                self.ledger.post(limit, edge, mark);
-                Ok(())
-            }
-            None => Err(Refusal::TooFewPlaces),
-        }
+        let Some(edge) = extend(&mut self.table, self.parts, product, &limit, memory) else {
+            return Err(Refusal::TooFewPlaces);
+        };
+        self.ledger.post(limit, edge, mark);
+        Ok(())
     }
 
     /// Drops the latest standing limit; its places are free again.

@@ -8,17 +8,12 @@ ghost use Rattle.jobs.specs.Calls.{broken};
 use crate::ledger::Ledger;
 use limits::{Choice, Limit, Sense};
 
-// The coefficient of part k if it is fitted, else 0.
-fn taken(limit: &Limit, k: usize, fitted: bool) -> i64
-    requires { k < 48 }
-    ensures is { result ≡ (if fitted then slice_index_or limit.now.coefficients k (pos 0) else pos 0) }
+// The coefficient of a part if it is fitted, else 0.
+fn taken(coefficient: &i32, fitted: bool) -> i64
+    ensures is { result ≡ (if fitted then coefficient.now else pos 0) }
     ensures small { unsigned_abs result ≤ 2 ^ 31 }
 {
-    if fitted {
-        i64::from(limit.coefficients[k])
-    } else {
-        0
-    }
+    if fitted { i64::from(*coefficient) } else { 0 }
 }
 
 // The coefficients of the fitted parts, added up.
@@ -28,13 +23,14 @@ fn summed(limit: &Limit, parts: u8, choice: Choice) -> i64
 {
     let mut total = 0i64;
     let mut rest = choice.0;
-    for k in 0..parts {
-        total += taken(limit, k as usize, rest % 2 == 1);
-        rest = rest / 2;
+    for coefficient in &limit.coefficients[..parts as usize] {
+        total += taken(coefficient, rest % 2 == 1);
+        rest /= 2;
     }
     total
 }
 
+// Whether a choice keeps a limit.
 fn is_kept(limit: &Limit, parts: u8, choice: Choice) -> bool
     requires few { parts ≤ 48 }
     ensures { result ≡ keeps limit.now (bits parts choice.0) }
@@ -47,24 +43,13 @@ fn is_kept(limit: &Limit, parts: u8, choice: Choice) -> bool
 }
 
 impl Ledger {
-    // The limit of a record.
-    fn limit(&self, i: usize) -> &Limit
-        requires whole { length self.now.records ≡ 64 }
-        requires low { i < 64 }
-        ensures { result.now ≡ (get_or self.now.records i blank).limit }
-    {
-        &self.records[i].limit
-    }
-
     /// The first standing limit that the choice breaks.
     pub fn first_broken(&self, parts: u8, choice: Choice) -> Option<usize>
         requires few { parts ≤ 48 }
-        requires whole { length self.now.records ≡ 64 }
-        requires count { self.now.count ≤ 64 }
         ensures { broken 0 (limits_of self.now.records self.now.count) (bits parts choice.0) ≡ result }
     {
-        for i in 0..self.count {
-            if !is_kept(self.limit(i), parts, choice) {
+        for (i, record) in self.records[..self.count].iter().enumerate() {
+            if !is_kept(&record.limit, parts, choice) {
                 return Some(i);
             }
         }

@@ -2,7 +2,7 @@
 ghost use Rattle.std.specs.Prelude.{◌≡◌, ◌+◌, ◌<◌, ◌≤◌, length, slice_index_or, slice_set};
 ghost use Rattle.jobs.specs.Books.{product_of, blank};
 
-use diagrams::{Child, Edge};
+use diagrams::Edge;
 use limits::{Limit, Sense};
 
 /// So many limits may stand.
@@ -16,11 +16,14 @@ pub struct Record {
     pub mark: usize,
 }
 
-/// The records of the standing limits, the first `count` of the table.
+/// The records of the standing limits, the first `count` of the table. The table has its 64 records from the start on, and each is filled
+/// in its place.
 #[derive(Drop)]
 pub struct Ledger {
     pub records: [Record; RECORDS],
     pub count: usize,
+    ghost whole: { length records ≡ 64 },
+    ghost few: { count ≤ 64 },
 }
 
 impl Record {
@@ -36,8 +39,7 @@ impl Record {
 impl Ledger {
     /// A ledger in which nothing stands.
     pub fn empty() -> Ledger
-        ensures count { result.count ≡ 0 }
-        ensures whole { length result.records ≡ 64 }
+        ensures { result.count ≡ 0 }
     {
         let blank = Record {
             limit: Limit {
@@ -45,10 +47,7 @@ impl Ledger {
                 sense: Sense::AtMost,
                 bound: 0,
             },
-            product: Edge {
-                constant: 1,
-                child: Child::Terminal,
-            },
+            product: Edge::constant(1),
             mark: 0,
         };
         Ledger {
@@ -59,15 +58,10 @@ impl Ledger {
 
     /// The product of the standing limits.
     pub fn product(&self) -> Edge
-        requires whole { length self.now.records ≡ 64 }
-        requires count { self.now.count ≤ 64 }
         ensures { result ≡ product_of self.now.records self.now.count }
     {
         if self.count == 0 {
-            Edge {
-                constant: 1,
-                child: Child::Terminal,
-            }
+            Edge::constant(1)
         } else {
             self.records[self.count - 1].product
         }
@@ -75,8 +69,7 @@ impl Ledger {
 
     /// One limit more.
     pub fn post(&mut self, limit: Limit, product: Edge, mark: usize)
-        requires whole { length self.old.records ≡ 64 }
-        requires count { self.old.count < 64 }
+        requires { self.old.count < 64 }
         ensures count { self.new.count ≡ self.old.count + 1 }
         ensures records { self.new.records ≡ slice_set self.old.records self.old.count (record { limit = limit; product = product; mark = mark }) }
     {
@@ -84,10 +77,17 @@ impl Ledger {
         self.count += 1;
     }
 
+    /// Drops all records.
+    pub fn drop_all(&mut self)
+        ensures count { self.new.count ≡ 0 }
+        ensures records { self.new.records ≡ self.old.records }
+    {
+        self.count = 0;
+    }
+
     /// Drops the latest record, and answers its mark.
     pub fn drop_last(&mut self) -> usize
-        requires whole { length self.old.records ≡ 64 }
-        requires count { (0 < self.old.count) × (self.old.count ≤ 64) }
+        requires { 0 < self.old.count }
         ensures count { self.new.count + 1 ≡ self.old.count }
         ensures records { self.new.records ≡ self.old.records }
         ensures mark { result ≡ (slice_index_or self.old.records self.new.count blank).mark }

@@ -1,7 +1,7 @@
 //! A job: its parts, its node table and its standing limits.
 #![tactic(auto)]
 
-ghost use Rattle.std.specs.Prelude.{◌≡◌, ◌≤◌, length};
+ghost use Rattle.std.specs.Prelude.{◌≤◌};
 ghost use Rattle.tables.specs.Chains.{made, Fits};
 ghost use Rattle.jobs.specs.Books.{Books};
 
@@ -21,7 +21,5 @@ pub struct Job<'a> {
     ledger: Ledger,
     ghost few: { parts ≤ 48 },
     ghost fits: { ∥ Fits table ∥₁ },
-    ghost count: { ledger.count ≤ 64 },
-    ghost whole: { length ledger.records ≡ 64 },
     ghost books: { ∥ Books parts (made table) ledger.records ledger.count ∥₁ },
 }

@@ -9,6 +9,9 @@ use crate::{Limit, Refusal, Sense};
 /// Coefficients go so far either way.
 pub const MOST_COEFFICIENT: u32 = 1_000_000;
 
+/// Bounds go so far either way.
+pub const MOST_BOUND: u32 = 100_000_000;
+
 /// A part and its coefficient.
 #[derive(Clone, Copy, Drop)]
 pub struct Term {

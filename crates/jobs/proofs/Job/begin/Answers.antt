@@ -1,4 +1,3 @@
-use Rattle.std.proofs.Common.{refl, arith}
 use Rattle.tables.specs.Chains.{made}
 use Rattle.jobs.proofs.Kept.{empty_books}
 use Rattle.jobs.proofs.Ready.{fits_of}
@@ -11,7 +10,5 @@ pub invariant_of-self : goal.invariant_of-self
 invariant_of-self c = record {
   few = c.if-parts-gt48.false;
   fits = ∣ c.clear.ensures.fits ∣₁;
-  count = omega arith;
-  whole = c.args.self.now.whole;
-  books = empty_books c.args.parts (made c.clear.new.self) c.args.self.now.ledger.records 0 c.clear.ensures.none refl;
+  books = empty_books c.args.parts (made c.clear.new.self) c.drop_all.new.self.records c.drop_all.new.self.count c.clear.ensures.none c.drop_all.ensures.count;
 }
