@@ -8,7 +8,7 @@ use Rattle.limits.specs.Refusals.{Reply, done, refused}
 use Rattle.diagrams.specs.declared.Edge.{Edge}
 use Rattle.diagrams.specs.Needs.{needs}
 use Rattle.tables.specs.declared.NodeTable.{NodeTable}
-use Rattle.tables.specs.Chains.{made, room, Fits}
+use Rattle.tables.specs.Chains.{made, room}
 use Rattle.tables.proofs.Tables.{made_length}
 use Rattle.walks.specs.Extended.{Begins, Extended, Refused}
 use Rattle.jobs.specs.Books.{Held, Books, limits_of, product_of}
@@ -22,7 +22,7 @@ use Rattle.jobs.proofs.Ready.{begins}
 pub stands_by : (room parts : ℕ) (ls : List Limit) (named : Option ℕ) (l : Limit) (r : Reply) → r ≡ closed room (standing parts ls) named l → if_done r (standing parts (ls ++ (l ∷ []))) (standing parts ls) ≡ after_close room (standing parts ls) named l
 stands_by room parts ls named l r e = ap (λ x. if_done x (standing parts (ls ++ (l ∷ []))) (standing parts ls)) e
 
-module _ (parts : ℕ) (t : NodeTable) (rs : List Record) (count : ℕ) (p : Edge) (l : Limit) (named : Option ℕ) (fits : Fits t) (books : ∥ Books parts (made t) rs count ∥₁) (p-is : p ≡ product_of rs count) (few : parts ≤ 48) (whole : length rs ≡ 64) (count-few : count ≤ 64) where
+module _ (parts : ℕ) (t : NodeTable) (rs : List Record) (count : ℕ) (p : Edge) (l : Limit) (named : Option ℕ) (books : ∥ Books parts (made t) rs count ∥₁) (p-is : p ≡ product_of rs count) (few : parts ≤ 48) (whole : length rs ≡ 64) (count-few : count ≤ 64) where
   size : length (limits_of rs count) ≡ count
   size = limits_length rs count (omega arith)
 
@@ -56,8 +56,8 @@ module _ (parts : ℕ) (t : NodeTable) (rs : List Record) (count : ℕ) (p : Edg
       enough : needs parts (limits_of rs count ++ (l ∷ [])) ≤ room t
       enough =
           let n = more_needs parts (made t) (made t') rs count mark l e inside books mark-is x.grown held in
-          let m = made_length t' x.table.fits in
-          let low = x.table.fits.low in
+          let m = made_length t' in
+          let low = t'.fits.low in
           let same = x.places in
           omega arith
 

@@ -17,7 +17,7 @@ use Rattle.diagrams.proofs.Grow.{nth_grown, value_grown}
 use Rattle.diagrams.proofs.Needed.{product_from, built_more, needed_more, once_less}
 use Rattle.tables.specs.declared.NodeTable.{NodeTable}
 use Rattle.tables.specs.Chains.{made, room}
-use Rattle.tables.proofs.Tables.{nth_in}
+use Rattle.std.proofs.lemmas.Option.{slice_get_within}
 use Rattle.walks.specs.Extended.{tables_from, limit_needs, all_needs, Extended, Refused}
 use Rattle.jobs.specs.Books.{Held}
 
@@ -55,7 +55,7 @@ product_is (l ∷ ls) f b c e = product_is ls (λ d. f d *ℤ indicator (keeps l
 
 under_from : (ns : List Node) (r : Child) → From ns 0 r → Under ns 0 (length ns) r
 under_from ns Terminal f = tt
-under_from ns (Place k) f = (f.0, f.1, omega arith, nth_in ns k f.0 f.1)
+under_from ns (Place k) f = (f.0, f.1, omega arith, slice_get_within ns k f.0 f.1)
 
 -- a function of the old nodes is that of one of them
 old_node : (parts : ℕ) (ns : List Node) (k : ℕ) (rest : List Node) (u : List ℤ) → In u (tables_from parts ns k rest) → (j : ℕ) × (n : Node) × (slice_get rest j ≡ Some n) × (u ≡ node_table parts ns (k + j) n)

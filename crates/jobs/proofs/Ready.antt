@@ -20,7 +20,7 @@ use Rattle.diagrams.specs.Apply.{Bit}
 use Rattle.diagrams.specs.Needs.{indicator, same}
 use Rattle.diagrams.specs.Nodes.{From, Sound, Ordered, Under}
 use Rattle.tables.specs.declared.NodeTable.{NodeTable}
-use Rattle.tables.specs.Chains.{made, Fits, Chains}
+use Rattle.tables.specs.Chains.{made}
 use Rattle.walks.specs.Extended.{Begins, SoundTable}
 use Rattle.rows.specs.Ones.{BitsOf, ones_of}
 use Rattle.rows.specs.Bests.{Ready}
@@ -30,23 +30,6 @@ use Rattle.jobs.specs.Books.{Denotes, Held, limits_of, product_of, Books}
 use Rattle.jobs.specs.Calls.{all_in_range}
 use Rattle.jobs.specs.declared.ledger.Record.{Record}
 use Rattle.jobs.proofs.Kept.{top_held}
-
--- the table's chains fit in one way
-chains_prop : {m len : ℕ} {H N X : ℕ → ℕ} (x y : Chains m len H N X) → x ≡ y
-chains_prop x y i = record {
-  low = Π_prop (λ g. Π_prop (λ h. le_prop)) x.low y.low i;
-  hit = Π_prop (λ g. Π_prop (λ h. Π_prop (λ k. ℕ_set _ _))) x.hit y.hit i;
-  last = Π_prop (λ k. Π_prop (λ h. le_prop)) x.last y.last i;
-  nlow = Π_prop (λ k. Π_prop (λ h. le_prop)) x.nlow y.nlow i;
-  nhit = Π_prop (λ k. Π_prop (λ h. Π_prop (λ p. ℕ_set _ _))) x.nhit y.nhit i;
-  nlast = Π_prop (λ j. Π_prop (λ k. Π_prop (λ h. Π_prop (λ p. le_prop)))) x.nlast y.nlast i;
-}
-
-fits_prop : {t : NodeTable} (x y : Fits t) → x ≡ y
-fits_prop x y i = record { low = le_prop x.low y.low i; chained = chains_prop x.chained y.chained i }
-
-pub fits_of : (t : NodeTable) → ∥ Fits t ∥₁ → Fits t
-fits_of t f = ∥∥₁_elim f fits_prop (λ x. x)
 
 abbrev At : ℕ → Option Node → Type 0
 At i None = ⊥
@@ -145,9 +128,8 @@ module _ (parts : ℕ) (ns : List Node) (rs : List Record) (count : ℕ) (e : Ed
   pub are_bits : (size : ℕ) → size ≡ parts → BitsOf ns size 0 e.constant e.child
   are_bits size s c l = subst Bit (sym (is_product c (omega arith))) (bit_indicator (keeps_all (limits_of rs count) c))
 
-  pub table_ready : (t : NodeTable) → made t ≡ ns → Fits t → SoundTable parts t
-  table_ready t is fits = record {
-    fits = fits;
+  pub table_ready : (t : NodeTable) → made t ≡ ns → SoundTable parts t
+  table_ready t is = record {
     sound = subst (Sound parts) (sym is) is_sound;
     ordered = subst (Ordered parts) (sym is) is_ordered;
     small = subst (λ xs. (k : ℕ) (n : Node) → slice_get xs k ≡ Some n → nat_abs n.value ≤ 2 ^ 29) (sym is) is_small;

@@ -2,7 +2,7 @@
 #![tactic(auto)]
 
 ghost use Rattle.std.specs.Prelude.{◌≤◌};
-ghost use Rattle.tables.specs.Chains.{made, Fits};
+ghost use Rattle.tables.specs.Chains.{made};
 ghost use Rattle.jobs.specs.Books.{Books};
 
 use crate::ledger::Ledger;
@@ -20,6 +20,5 @@ pub struct Job<'a> {
     table: NodeTable<'a>,
     ledger: Ledger,
     ghost few: { parts ≤ 48 },
-    ghost fits: { ∥ Fits table ∥₁ },
     ghost books: { ∥ Books parts (made table) ledger.records ledger.count ∥₁ },
 }

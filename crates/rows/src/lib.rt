@@ -6,7 +6,7 @@ ghost use Rattle.std.specs.List.{slice_get};
 ghost use Rattle.diagrams.specs.Apply.{Bit};
 ghost use Rattle.diagrams.specs.Needs.{indicator};
 ghost use Rattle.diagrams.specs.Nodes.{Under};
-ghost use Rattle.tables.specs.Chains.{made, Fits};
+ghost use Rattle.tables.specs.Chains.{made};
 ghost use Rattle.rows.specs.Bests.{mapped, better_of, Put, Weighed, Ready, row_at, RightRows, Tells, Lifts, Tops, NodeBest, RowBest};
 
 use diagrams::{Child, Node};
@@ -247,7 +247,6 @@ fn row_of<G: Grade>(table: &NodeTable, rows: &[Row<G>], weights: &[G::Weight], k
 /// Fills one row for each node, in the order of their places.
 pub fn fill<G: Grade>(table: &NodeTable, weights: &[G::Weight], rows: &mut Rows<G>)
     requires ready { Ready G.kind (map G.weighs weights.now) (made table.now) }
-    requires fits { Fits table.now }
     requires enough { length (made table.now) ≤ length rows.old.rows.now }
     ensures right { RightRows G.kind G.means (map G.weighs weights.now) (made table.now) rows.new.rows.now (length (made table.now)) }
     ensures named { rows.new.rows.ghost_name ≡ rows.old.rows.ghost_name }

@@ -7,7 +7,7 @@ ghost use Rattle.grades.specs.Rule.{chosen, left_out};
 ghost use Rattle.diagrams.specs.Apply.{Bit};
 ghost use Rattle.diagrams.specs.Needs.{indicator};
 ghost use Rattle.diagrams.specs.Nodes.{Under};
-ghost use Rattle.tables.specs.Chains.{made, Fits};
+ghost use Rattle.tables.specs.Chains.{made};
 ghost use Rattle.rows.specs.Ones.{ones, ones_of, BitsOf};
 ghost use Rattle.rows.specs.Bests.{mapped, Ready};
 ghost use Rattle.solving.specs.Settling.{Solved, Filled, StandsAt, Turns, Settles};
@@ -147,7 +147,6 @@ pub fn solve<G: Grade>(
     rows: &mut Rows<G>,
 ) -> Option<Answer<G>>
     requires ready { Ready G.kind (map G.weighs weights.now) (made table.now) }
-    requires fits { Fits table.now }
     requires enough { length (made table.now) ≤ length rows.old.rows.now }
     requires under { Under (made table.now) 0 (length (made table.now)) root.child }
     requires bits { BitsOf (made table.now) (length (map G.weighs weights.now)) 0 root.constant root.child }

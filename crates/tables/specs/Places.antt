@@ -8,22 +8,20 @@ use Rattle.diagrams.specs.Needs.{once}
 use Rattle.diagrams.specs.Nodes.{From}
 use Rattle.diagrams.specs.Apply.{edge_at, Good, Grown, Makes, Joined}
 use Rattle.tables.specs.declared.NodeTable.{NodeTable}
-pub use Rattle.tables.specs.Chains.{made, room, Fits}
+pub use Rattle.tables.specs.Chains.{made, room}
 
 abbrev pub blank : Node
 blank = record { part = 0; value = pos 0; left = Terminal; right = Terminal }
 
 -- t' is t with more nodes, of the functions ts only
 pub record Grew (parts : ℕ) (ts : List (List ℤ)) (t t' : NodeTable) : Type 0 where
-  pub fits : Fits t'
   pub places : room t' ≡ room t
   pub grown : Grown (made t) (made t')
   pub good : Good parts (made t') ts
 
--- a whole table, with nodes of the functions ts only
-pub record Table (parts : ℕ) (ts : List (List ℤ)) (t : NodeTable) : Type 0 where
-  pub fits : Fits t
-  pub good : Good parts (made t) ts
+-- a table with nodes of the functions ts only
+abbrev pub Table : ℕ → List (List ℤ) → NodeTable → Type 0
+Table parts ts t = Good parts (made t) ts
 
 -- there are more functions than the table may have nodes
 abbrev pub TooFew : List (List ℤ) → NodeTable → Type 0

@@ -1,19 +1,21 @@
 //! A table of diagram nodes over lent places, in which equal nodes are found by their hashes.
 #![tactic(auto)]
 
-ghost use Rattle.std.specs.Prelude.{◌≡◌, ℕ, ◌+◌, ◌-◌, ◌^◌, ◌<◌, ◌≤◌, true, List, [], ◌∷◌, ◌++◌, length, take, ℤ, Some, MatchOption, ◌≢◌, unsigned_abs};
+ghost use Rattle.std.specs.Prelude.{◌≡◌, ℕ, ◌+◌, ◌^◌, ◌<◌, ◌≤◌, true, min, List, [], ◌∷◌, ◌++◌, length, take, ℤ, Some, MatchOption, ◌≢◌, unsigned_abs};
 ghost use Rattle.std.specs.List.{slice_get};
-ghost use Rattle.diagrams.specs.Nodes.{From, Sound};
-ghost use Rattle.diagrams.specs.Apply.{Makes, Cofactor, node_of, edge_to, fitted_edge, left_out_edge};
-ghost use Rattle.tables.specs.Chains.{hashed, child_number, node_at, made, room, Fits, Clear, with_node, with_head};
-ghost use Rattle.tables.specs.Places.{Table, part_at, CanMake, Made, CanSettle, OneFunction};
+ghost use Rattle.diagrams.specs.Apply.{node_of, edge_to, fitted_edge, left_out_edge};
+ghost use Rattle.tables.specs.Buckets.{hashed, nodes_of, Clear, PlacesFit};
 
 use diagrams::{Child, Edge, Node};
 
 // Only so many places of a table count.
 const ROOM: usize = 60_000;
 
+// The part that the terminal counts as: later than every part, so that the least of two children's parts is the earlier one.
+const TERMINAL_PART: u8 = u8::MAX;
+
 /// A node with the link to the last earlier one of its bucket, and the link to the last one of the bucket of this place's number.
+// A link is one more than a place, or 0 for none: an `Option<u32>` takes eight bytes in place of four, and the places are lent memory.
 #[derive(Clone, Copy, Drop)]
 pub struct Place {
     node: Node,
@@ -40,57 +42,22 @@ impl Place {
 pub struct NodeTable<'a> {
     places: &'a mut [Place],
     used: usize,
-}
-
-// A child as a number: 0 for the terminal.
-fn number(c: Child) -> usize
-    ensures is { result ≡ child_number c }
-    ensures small { result < 5000000000 }
-{
-    match c {
-        Child::Terminal => 0,
-        Child::Place(k) => k as usize + 1,
-    }
+    ghost fits: { PlacesFit places.now used },
 }
 
 // The bucket of a node.
+#[tactic(auto, unfolding(crate::specs::Buckets::hashed))]
 fn hash(n: Node, buckets: usize) -> usize
     requires { 0 < buckets }
     ensures is { result ≡ hashed buckets n }
     ensures below { result < buckets }
 {
     let value = n.value.unsigned_abs() as usize;
-    (number(n.left) * 97_787_311
-        + number(n.right) * 161_800_127
+    (n.left.number() * 97_787_311
+        + n.right.number() * 161_800_127
         + value * 57_721_583
         + n.part as usize)
         % buckets
-}
-
-// Puts a node with its link into a place.
-fn write(places: &mut [Place], i: usize, n: Node, next: u32)
-    requires { i < length places.old }
-    ensures { places.new ≡ with_node places.old i n next }
-{
-    let head = places[i].head;
-    places[i] = Place {
-        node: n,
-        next,
-        head,
-    };
-}
-
-// Sets the last node of a bucket.
-fn lead(places: &mut [Place], h: usize, head: u32)
-    requires { h < length places.old }
-    ensures { places.new ≡ with_head places.old h head }
-{
-    let p = places[h];
-    places[h] = Place {
-        node: p.node,
-        next: p.next,
-        head,
-    };
 }
 
 // Empties all buckets.
@@ -98,19 +65,51 @@ fn empty_buckets(places: &mut [Place])
     ensures clear { Clear places.new }
     ensures length { length places.new ≡ length places.old }
 {
-    let mut i = 0;
-    while i < places.len() {
-        lead(places, i, 0);
-        i += 1;
+    for place in places.iter_mut() {
+        place.head = 0;
     }
 }
 
+// Puts a node into the first place that is not used, as the last one of its bucket.
+fn append(places: &mut [Place], used: usize, n: Node)
+    requires fits { PlacesFit places.old used }
+    requires left { used < min (length places.old) 60000 }
+    ensures fits { PlacesFit places.new (used + 1) }
+    ensures length { length places.new ≡ length places.old }
+    ensures nodes { nodes_of (take (used + 1) places.new) ≡ nodes_of (take used places.old) ++ n ∷ [] }
+{
+    let bucket = hash(n, places.len());
+    places[used] = Place {
+        node: n,
+        next: places[bucket].head,
+        ..places[used]
+    };
+    places[bucket].head = (used + 1) as u32;
+}
+
+// Takes the node of the last used place out of its bucket.
+fn unlink(places: &mut [Place], last: usize)
+    requires { PlacesFit places.old (last + 1) }
+    ensures fits { PlacesFit places.new last }
+    ensures length { length places.new ≡ length places.old }
+    ensures nodes { nodes_of places.new ≡ nodes_of places.old }
+{
+    let Place { node, next, .. } = places[last];
+    let bucket = hash(node, places.len());
+    places[bucket].head = next;
+}
+
 impl<'a> NodeTable<'a> {
+    ghost use Rattle.diagrams.specs.Nodes.{From, Sound};
+    ghost use Rattle.diagrams.specs.Apply.{Makes, Cofactor};
+    ghost use Rattle.tables.specs.Buckets.{node_at};
+    ghost use Rattle.tables.specs.Chains.{made, room};
+    ghost use Rattle.tables.specs.Places.{Table, part_at, CanMake, Made, CanSettle, OneFunction};
+
     /// A table without nodes over the places.
     pub fn over(places: &'a mut [Place]) -> NodeTable<'a>
         ensures used { result.used ≡ 0 }
         ensures none { made result ≡ [] }
-        ensures fits { Fits result }
         ensures places { length result.places.now ≡ length places.old }
     {
         empty_buckets(places);
@@ -120,7 +119,7 @@ impl<'a> NodeTable<'a> {
     /// How many nodes the table has.
     pub fn used(&self) -> usize
         ensures used { result ≡ self.now.used }
-        ensures nodes { Fits self.now → result ≡ length (made self.now) }
+        ensures nodes { result ≡ length (made self.now) }
     {
         self.used
     }
@@ -130,81 +129,55 @@ impl<'a> NodeTable<'a> {
         requires { k < length (made self.now) }
         ensures { slice_get (made self.now) k ≡ Some result }
     {
-        let places = &*self.places;
-        places[k].node
+        self.places[k].node
     }
 
     // The place of a node, if it stands.
     fn find(&self, n: Node) -> Option<usize>
-        requires { Fits self.now }
         ensures { MatchOption result ((k : ℕ) → k < self.now.used → node_at self.now.places.now k ≢ n) (λ i. (i < self.now.used) × (node_at self.now.places.now i ≡ n)) }
     {
-        let places = &*self.places;
-        if places.len() == 0 {
+        if self.places.is_empty() {
             return None;
         }
-        let mut link = places[hash(n, places.len())].head as usize;
-        while link != 0 {
-            let p = places[link - 1];
-            if p.node == n {
-                return Some(link - 1);
+        let mut link = self.places[hash(n, self.places.len())].head as usize;
+        while let Some(k) = link.checked_sub(1) {
+            let place = self.places[k];
+            if place.node == n {
+                return Some(k);
             }
-            link = p.next as usize;
+            link = place.next as usize;
         }
         None
     }
 
     // Puts a node into the next place, if there is one left.
     fn push(&mut self, n: Node) -> Option<usize>
-        requires { Fits self.old }
-        ensures fits { Fits self.new }
         ensures places { room self.new ≡ room self.old }
         ensures done { MatchOption result ((self.old.used ≡ room self.old) × (made self.new ≡ made self.old)) (λ i. (i ≡ self.old.used) × (i < 60000) × (made self.new ≡ made self.old ++ n ∷ [])) }
     {
         let i = self.used;
-        let buckets = self.places.len();
-        if i >= ROOM || i >= buckets {
+        if i >= ROOM || i >= self.places.len() {
             return None;
         }
-        let h = hash(n, buckets);
-        let next = self.places[h].head;
-        write(self.places, i, n, next);
-        lead(self.places, h, (i + 1) as u32);
+        append(self.places, i, n);
         self.used = i + 1;
         Some(i)
     }
 
-    // Takes the last node out again.
-    fn remove_last(&mut self)
-        requires { (Fits self.old) × (0 < self.old.used) }
-        ensures fits { Fits self.new }
-        ensures places { room self.new ≡ room self.old }
-        ensures less { self.new.used + 1 ≡ self.old.used }
-        ensures done { made self.new ≡ take (self.old.used - 1) (made self.old) }
-    {
-        let i = self.used - 1;
-        let p = self.places[i];
-        let h = hash(p.node, self.places.len());
-        lead(self.places, h, p.next);
-        self.used = i;
-    }
-
     /// Keeps the first `to` nodes.
     pub fn truncate(&mut self, to: usize)
-        requires { (Fits self.old) × (to ≤ self.old.used) }
-        ensures fits { Fits self.new }
+        requires { to ≤ self.old.used }
         ensures places { room self.new ≡ room self.old }
         ensures done { made self.new ≡ take to (made self.old) }
     {
-        while to < self.used {
-            self.remove_last();
+        for last in (to..self.used).rev() {
+            unlink(self.places, last);
+            self.used = last;
         }
     }
 
     /// Drops all nodes.
     pub fn clear(&mut self)
-        requires { Fits self.old }
-        ensures fits { Fits self.new }
         ensures places { room self.new ≡ room self.old }
         ensures none { made self.new ≡ [] }
     {
@@ -237,11 +210,11 @@ impl<'a> NodeTable<'a> {
 
     /// The part of a node, and 255 for the terminal.
     pub fn part_of(&self, at: Child) -> u8
-        requires { (Fits self.now) × (From (made self.now) 0 at) }
+        requires { From (made self.now) 0 at }
         ensures { result ≡ part_at (made self.now) at }
     {
         match at {
-            Child::Terminal => 255,
+            Child::Terminal => TERMINAL_PART,
             Child::Place(k) => self.places[k as usize].node.part,
         }
     }
@@ -251,18 +224,17 @@ impl<'a> NodeTable<'a> {
         requires { CanSettle self.now e part }
         ensures { Cofactor (made self.now) part e fitted result }
     {
-        match e.child {
-            Child::Terminal => e,
-            Child::Place(k) => {
-                let n = self.places[k as usize].node;
-                if n.part != part {
-                    e
-                } else if fitted {
-                    fitted_edge(e, n)
-                } else {
-                    left_out_edge(e, n)
-                }
-            }
+        let Child::Place(k) = e.child else {
+            return e;
+        };
+        let n = self.places[k as usize].node;
+        if n.part != part {
+            return e;
+        }
+        if fitted {
+            fitted_edge(e, n)
+        } else {
+            left_out_edge(e, n)
         }
     }
 }
@@ -286,8 +258,8 @@ fn edge_to(out: Edge, k: usize) -> Edge
     ensures { result ≡ edge_to out k }
 {
     Edge {
-        constant: out.constant,
         child: Child::Place(k as u32),
+        ..out
     }
 }
 
@@ -297,8 +269,8 @@ fn fitted_edge(e: Edge, n: Node) -> Edge
     ensures { result ≡ fitted_edge e n }
 {
     Edge {
-        constant: e.constant + n.value,
         child: n.left,
+        ..e.plus(n.value)
     }
 }
 
@@ -307,7 +279,7 @@ fn left_out_edge(e: Edge, n: Node) -> Edge
     ensures { result ≡ left_out_edge e n }
 {
     Edge {
-        constant: e.constant,
         child: n.right,
+        ..e
     }
 }

@@ -5,16 +5,15 @@ use Rattle.diagrams.specs.declared.Node.{Node}
 use Rattle.diagrams.specs.Nodes.{Sound, Ordered}
 use Rattle.diagrams.proofs.Extend.{ordered_none}
 use Rattle.tables.specs.declared.NodeTable.{NodeTable}
-use Rattle.tables.specs.Places.{made, Fits}
+use Rattle.tables.specs.Places.{made}
 use Rattle.walks.specs.Extended.{SoundTable}
 
 none_there : {A : Type 0} (k : ℕ) (n : Node) (ns : List Node) → ns ≡ [] → slice_get ns k ≡ Some n → A
 none_there k n [] e f = let z : ◌≡◌ {A = ℕ} 0 1 = cc in absurd (omega arith)
 none_there k n (q ∷ ns) e f = let z : ◌≡◌ {A = ℕ} 0 1 = cc in absurd (omega arith)
 
-pub sound_none : (parts : ℕ) (t : NodeTable) → Fits t → made t ≡ [] → SoundTable parts t
-sound_none parts t fits none = record {
-  fits = fits;
+pub sound_none : (parts : ℕ) (t : NodeTable) → made t ≡ [] → SoundTable parts t
+sound_none parts t none = record {
   sound = record {
     below = λ k n f. none_there k n (made t) none f;
     left_higher = λ k n f. none_there k n (made t) none f;
@@ -27,9 +26,8 @@ sound_none parts t fits none = record {
 }
 
 -- a table with the same nodes
-pub sound_same : (parts : ℕ) (t t' : NodeTable) → SoundTable parts t → Fits t' → made t' ≡ made t → SoundTable parts t'
-sound_same parts t t' s fits same = record {
-  fits = fits;
+pub sound_same : (parts : ℕ) (t t' : NodeTable) → SoundTable parts t → made t' ≡ made t → SoundTable parts t'
+sound_same parts t t' s same = record {
   sound = subst (Sound parts) (sym same) s.sound;
   ordered = subst (Ordered parts) (sym same) s.ordered;
   small = λ k n f. s.small k n (subst (λ ns. slice_get ns k ≡ Some n) same f);

@@ -14,10 +14,10 @@ use Rattle.walks.specs.Walked.{Walked}
 use Rattle.tables.proofs.Tables.{top_is, grew_none}
 
 pub table_of : {parts : ℕ} {ts : List (List ℤ)} {t t' : NodeTable} → Grew parts ts t t' → Table parts ts t'
-table_of g = record { fits = g.fits; good = g.good }
+table_of g = g.good
 
 pub grew_on : {parts : ℕ} {ts : List (List ℤ)} {t t₁ t₂ : NodeTable} → Grew parts ts t t₁ → Grew parts ts t₁ t₂ → Grew parts ts t t₂
-grew_on g h = record { fits = h.fits; places = h.places ∙ g.places; grown = grown_on g.grown h.grown; good = h.good }
+grew_on g h = record { places = h.places ∙ g.places; grown = grown_on g.grown h.grown; good = h.good }
 
 pub next : (P : ℕ → Type 0) (j : ℕ) → P (suc j) → P (j + 1)
 next P j h = subst P (sym (add-one j)) h
@@ -33,7 +33,7 @@ module _ (parts : ℕ) (ts : List (List ℤ)) (t : NodeTable) (table : Table par
   held e r = record { grew = grew_none parts ts t table; answer = r }
 
   pub top_of : parts ≤ 48 → (from : ℕ) → Asked parts (made t) ts from q → Open q → (j : ℕ) → j ≡ min (part_at (made t) q.left.child) (part_at (made t) q.right.child) → Top parts (made t) q j
-  top_of few from a o j e = subst (Top parts (made t) q) (sym e) (top_is parts (made t) table.good.sound few q (asked_from from a).0 (asked_from from a).1 o (asked_constants parts (made t) ts from q a))
+  top_of few from a o j e = subst (Top parts (made t) q) (sym e) (top_is parts (made t) table.sound few q (asked_from from a).0 (asked_from from a).1 o (asked_constants parts (made t) ts from q a))
 
   pub asked_top : (from : ℕ) → Asked parts (made t) ts from q → (j : ℕ) → Top parts (made t) q j → Asked parts (made t) ts j q
   asked_top from a j top =
@@ -57,7 +57,7 @@ module _ {parts : ℕ} {ts : List (List ℤ)} {t : NodeTable} {q : Question} {j 
   first_asked x r s = next (λ i. Asked parts (made t) ts i r) j (ask_settled_lem parts (made t) j q o.top.low ts x r o.asked s)
 
   pub later_asked : {t₁ : NodeTable} → Grew parts ts t t₁ → (x : Bool) (r : Question) → Settled (made t) j q x r → Asked parts (made t₁) ts (j + 1) r
-  later_asked g x r s = asked_grown parts o.table.good.sound g.grown ts (j + 1) r (first_asked x r s)
+  later_asked g x r s = asked_grown parts o.table.sound g.grown ts (j + 1) r (first_asked x r s)
 
   module _ {q₁ q₀ : Question} (s₁ : Settled (made t) j q true q₁) (s₀ : Settled (made t) j q false q₀) {t₁ t₂ : NodeTable} (g₁ : Grew parts ts t t₁) (g₂ : Grew parts ts t₁ t₂) {fit out : Edge} (a₁ : Right parts (made t₁) q₁ fit) (a₀ : Right parts (made t₂) q₀ out) where
     g : Grew parts ts t t₂
@@ -65,15 +65,15 @@ module _ {parts : ℕ} {ts : List (List ℤ)} {t : NodeTable} {q : Question} {j 
 
     pub makes : Makes parts (made t₂) ts j fit out
     makes = may_make parts (made t₂) j q o.top.low q₁ q₀
-        (settled_grown parts o.table.good.sound g.grown j q true q₁ o.asked.left_in o.asked.right_in s₁)
-        (settled_grown parts o.table.good.sound g.grown j q false q₀ o.asked.left_in o.asked.right_in s₀)
-        fit out (right_grown parts g₁.good.sound g₂.grown q₁ fit a₁) a₀ ts (asked_grown parts o.table.good.sound g.grown ts j q o.asked)
+        (settled_grown parts o.table.sound g.grown j q true q₁ o.asked.left_in o.asked.right_in s₁)
+        (settled_grown parts o.table.sound g.grown j q false q₀ o.asked.left_in o.asked.right_in s₀)
+        fit out (right_grown parts g₁.good.sound g₂.grown q₁ fit a₁) a₀ ts (asked_grown parts o.table.sound g.grown ts j q o.asked)
 
     pub finish : {t₃ : NodeTable} {e : Edge} → Grew parts ts t₂ t₃ → Joined (made t₃) j fit out e → Right parts (made t₃) q e
     finish {t₃} {e} g₃ joint =
         let h : Grew parts ts t t₃ = grew_on (grew_on g₁ g₂) g₃ in
         answered parts (made t₃) j q o.top.low q₁ q₀
-        (settled_grown parts o.table.good.sound h.grown j q true q₁ o.asked.left_in o.asked.right_in s₁)
-        (settled_grown parts o.table.good.sound h.grown j q false q₀ o.asked.left_in o.asked.right_in s₀)
+        (settled_grown parts o.table.sound h.grown j q true q₁ o.asked.left_in o.asked.right_in s₁)
+        (settled_grown parts o.table.sound h.grown j q false q₀ o.asked.left_in o.asked.right_in s₀)
         fit out (right_grown parts g₁.good.sound (grew_on g₂ g₃).grown q₁ fit a₁) (right_grown parts g₂.good.sound g₃.grown q₀ out a₀)
-        e joint (top_grown parts o.table.good.sound h.grown q j o.top)
+        e joint (top_grown parts o.table.sound h.grown q j o.top)

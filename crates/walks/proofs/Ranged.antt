@@ -46,12 +46,12 @@ module _ {parts : ℕ} {ts : List (List ℤ)} {t₀ t : NodeTable} {root : Quest
       let table = table_of w.grew in
       let from = (asked_from parts ts t table q (level fs) w.state).0 in
       let p : ℕ = part_at (made t) q.left.child in
-      let low : p < parts = subst (λ z. part_at (made t) z < parts) (sym b.place) (part_low parts (made t) table.good.sound b.k (subst (From (made t) 0) b.place from)) in
+      let low : p < parts = subst (λ z. part_at (made t) z < parts) (sym b.place) (part_low parts (made t) table.sound b.k (subst (From (made t) 0) b.place from)) in
       let most : (i : ℕ) → From (made t) i q.left.child → i ≤ p = λ i f. subst (λ z. i ≤ part_at (made t) z) (sym b.place) (most_part (made t) b.k i (subst (From (made t) i) b.place f)) in
       let here : From (made t) p q.left.child = from_part (made t) q.left.child from in
       let l = most (level fs) w.state.left_in in
       let long = r.can.long in
-      let root-tail = tail_grown parts table₀.good.sound w.grew.grown r.ws 0 root from₀ r.tail in
+      let root-tail = tail_grown parts table₀.sound w.grew.grown r.ws 0 root from₀ r.tail in
       let tail = tail_up parts (made t) r.ws long (p - level fs) (level fs) p q (omega arith) (omega arith) here (tail_path parts ts t r.ws long root root-tail fs q w.path) in
       let g : Range = get_or rs p no_range in
       decided parts (made t) q e g.low g.high p (omega arith) here most
@@ -60,7 +60,7 @@ module _ {parts : ℕ} {ts : List (List ℤ)} {t₀ t : NodeTable} {root : Quest
 
 module _ {t : NodeTable} {rs : List Range} {q : Question} (c : CanLook t rs q) (k : ℕ) (place : q.left.child ≡ Place k) (p : ℕ) (is : p ≡ part_at (made t) q.left.child) where
   pub look_low : p < c.parts
-  look_low = subst (λ z. z < c.parts) (sym is) (subst (λ z. part_at (made t) z < c.parts) (sym place) (part_low c.parts (made t) c.table.good.sound k (subst (From (made t) 0) place c.from)))
+  look_low = subst (λ z. z < c.parts) (sym is) (subst (λ z. part_at (made t) z < c.parts) (sym place) (part_low c.parts (made t) c.table.sound k (subst (From (made t) 0) place c.from)))
 
   pub look_index : p < length rs
   look_index = let l = look_low in let r = c.room in omega arith

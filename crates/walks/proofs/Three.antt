@@ -79,7 +79,7 @@ module _ (parts : ℕ) (t : NodeTable) (product : Edge) (l : Limit) (b : Begins 
     kept_in = (r.right 0 (from_grown g₂.grown 0 e.child s.from) tt).from
 
     product_is : (c : List Bool) → edge_at (made t₂) 0 product c ≡ edge_at (made t) 0 product c
-    product_is c = edge_grown parts m.table.good.sound (grown_on g₁.grown g₂.grown) 0 product c b.product_in
+    product_is c = edge_grown parts m.table.sound (grown_on g₁.grown g₂.grown) 0 product c b.product_in
 
     last_is : (c : List Bool) → length c ≡ parts → target (made t₂) 0 last c ≡ times t product l c
     last_is c h = ap₂ ◌*ℤ◌ (product_is c) (kept_is t₂ e f t₁ g₁.good.sound g₂.grown s r c h)

@@ -54,19 +54,19 @@ module _ (parts : ℕ) (ts : List (List ℤ)) (t t' : NodeTable) (g : Grew parts
   opening_grown : (q : Question) (j : ℕ) → Opening parts ts t q j → Opening parts ts t' q j
   opening_grown q j o = record {
     table = table_of g;
-    top = top_grown parts o.table.good.sound g.grown q j o.top;
-    asked = asked_grown parts o.table.good.sound g.grown ts j q o.asked;
+    top = top_grown parts o.table.sound g.grown q j o.top;
+    asked = asked_grown parts o.table.sound g.grown ts j q o.asked;
   }
 
   settled_on : (f : Frame) (x : Bool) (q : Question) → Opening parts ts t f.question f.part → Settled (made t) f.part f.question x q → Settled (made t') f.part f.question x q
-  settled_on f x q o s = settled_grown parts o.table.good.sound g.grown f.part f.question x q o.asked.left_in o.asked.right_in s
+  settled_on f x q o s = settled_grown parts o.table.sound g.grown f.part f.question x q o.asked.left_in o.asked.right_in s
 
   fit_grown : (f : Frame) → Opening parts ts t f.question f.part → FitHeld parts t f → FitHeld parts t' f
   fit_grown f o h = at f.fit h
     where
       at : (m : Option Edge) → IfSome m (λ e. (q : Question) × Settled (made t) f.part f.question true q × Right parts (made t) q e) → IfSome m (λ e. (q : Question) × Settled (made t') f.part f.question true q × Right parts (made t') q e)
       at None k = tt
-      at (Some e) k = (k.0, settled_on f true k.0 o k.1, right_grown parts o.table.good.sound g.grown k.0 e k.2)
+      at (Some e) k = (k.0, settled_on f true k.0 o k.1, right_grown parts o.table.sound g.grown k.0 e k.2)
 
   pub path_grown : (root : Question) (fs : List Frame) (q : Question) → Path parts ts t root fs q → Path parts ts t' root fs q
   path_grown root [] q p = p

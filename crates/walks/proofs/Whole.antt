@@ -2,6 +2,7 @@
 use Rattle.std.proofs.Common.{◌≡◌, ℕ, zero, suc, ◌+◌, ◌-◌, ◌≤◌, List, [], ◌∷◌, ◌++◌, length, take, ℤ, Some, None, Option, sym, refl, ap, ◌∙◌, subst, inl, inr, ⊎_elim, add-zero, zero-add, arith, length-append, take_all}
 use lib.Seq.{take-append-le}
 use Rattle.std.specs.List.{slice_get}
+use Rattle.std.proofs.lemmas.Option.{slice_get_within}
 use Rattle.diagrams.specs.declared.Child.TheVariants.{Place}
 use Rattle.diagrams.specs.declared.Node.{Node}
 use Rattle.diagrams.specs.declared.Edge.{Edge}
@@ -14,9 +15,9 @@ use Rattle.diagrams.proofs.Held.{node_once, AtMost, at_least}
 use Rattle.diagrams.proofs.Grow.{value_grown, nth_grown}
 use Rattle.tables.specs.declared.NodeTable.{NodeTable}
 use Rattle.limits.specs.declared.Limit.{Limit}
-use Rattle.tables.specs.Places.{made, room, Fits}
+use Rattle.tables.specs.Places.{made, room}
 use Rattle.walks.specs.Extended.{kept, Builds, Built, tables_from, limit_needs, all_needs, SoundTable, Extended, Refused, HasNode}
-use Rattle.tables.proofs.Tables.{made_length, nth_in}
+use Rattle.tables.proofs.Tables.{made_length}
 
 in_tables : (parts : ℕ) (ns : List Node) (k j : ℕ) (rest : List Node) (n : Node) → slice_get rest j ≡ Some n → In (node_table parts ns (k + j) n) (tables_from parts ns k rest)
 in_tables parts ns k j [] n e = let z : ◌≡◌ {A = ℕ} 0 1 = cc in absurd (omega arith)
@@ -37,7 +38,7 @@ module _ (parts : ℕ) (t : NodeTable) (product : Edge) (l : Limit) (s : SoundTa
 
   pub builds : Builds parts (all_needs parts t product l) t product l
   builds = record {
-    table = record { fits = s.fits; good = record { sound = s.sound; ordered = s.ordered; small = s.small; within = λ k n e. in_left _ (tables_from parts (made t) 0 (made t)) _ (rw zero-add at (in_tables parts (made t) 0 k (made t) n e)) } };
+    table = record { sound = s.sound; ordered = s.ordered; small = s.small; within = λ k n e. in_left _ (tables_from parts (made t) 0 (made t)) _ (rw zero-add at (in_tables parts (made t) 0 k (made t) n e)) };
     sums = λ u h. in_right u (tables_from parts (made t) 0 (made t)) _ (in_left u (needed parts (sum l.coefficients)) _ h);
     keeps = λ u h. in_right u (tables_from parts (made t) 0 (made t)) _ (in_right u (needed parts (sum l.coefficients)) _ (in_left u (needed parts (kept l)) _ h));
     products = λ u h. in_right u (tables_from parts (made t) 0 (made t)) _ (in_right u (needed parts (sum l.coefficients)) _ (in_right u (needed parts (kept l)) _ h));
@@ -45,7 +46,7 @@ module _ (parts : ℕ) (t : NodeTable) (product : Edge) (l : Limit) (s : SoundTa
 
   pub extended : (t' : NodeTable) (e : Edge) → Built parts (all_needs parts t product l) t t' product l (Some e) → Extended parts t t' product l e
   extended t' e b = record {
-    table = record { fits = b.grew.fits; sound = b.grew.good.sound; ordered = b.grew.good.ordered; small = b.grew.good.small };
+    table = record { sound = b.grew.good.sound; ordered = b.grew.good.ordered; small = b.grew.good.small };
     places = b.grew.places;
     grown = b.grew.grown;
     denotes = b.edge;
@@ -63,7 +64,7 @@ module _ (parts : ℕ) (t : NodeTable) (product : Edge) (l : Limit) (s : SoundTa
 
       counted : t'.used ≡ length (once (all_needs parts t product l))
       counted =
-          let n = made_length t' b.grew.fits in
+          let n = made_length t' in
           let up = AtMost parts (made t') b.grew.good.sound (all_needs parts t product l) b.grew.good.within in
           let down = at_least parts (made t') b.grew.good.sound (all_needs parts t product l) (λ u m. ⊎_elim (old_node u) (b.edge.each u) (in_either u (tables_from parts (made t) 0 (made t)) (limit_needs parts t product l) m)) in
           omega arith
@@ -74,21 +75,20 @@ module _ (parts : ℕ) (t : NodeTable) (product : Edge) (l : Limit) (s : SoundTa
           let j = o.0 in
           let q = o.1 in
           let g : slice_get (made t') j ≡ Some q = nth_grown b.grew.grown j q o.2 in
-          let below = nth_in (made t) j q o.2 in
+          let below = slice_get_within (made t) j q o.2 in
           let same : node_table parts (made t) j q ≡ node_table parts (made t') j q = sym (table_ext (parts - q.part) (value (made t') q.part (Place j)) (value (made t) q.part (Place j)) (λ c z. value_grown parts s.sound b.grew.grown q.part (Place j) c (q, o.2, omega arith))) in
           let e' : node_table parts (made t') k n ≡ node_table parts (made t') j q = o.3 ∙ (ap (λ i. node_table parts (made t) i q) (zero-add j) ∙ same) in
           let z : k ≡ j = node_once parts (made t') b.grew.good.sound k j n q f g e' in
           omega arith
 
-  pub refused : (t' t'' : NodeTable) → Built parts (all_needs parts t product l) t t' product l None → Fits t'' → room t'' ≡ room t' → made t'' ≡ take t.used (made t') → Refused parts t t'' product l
-  refused t' t'' b fits places is =
+  pub refused : (t' t'' : NodeTable) → Built parts (all_needs parts t product l) t t' product l None → room t'' ≡ room t' → made t'' ≡ take t.used (made t') → Refused parts t t'' product l
+  refused t' t'' b places is =
       let g = b.grew.grown in
-      let n = made_length t s.fits in
+      let n = made_length t in
       let few = b.edge in
       let p = b.grew.places in
       let back : take t.used (made t ++ g.more) ≡ made t = take-append-le t.used (made t) g.more (omega arith) ∙ take_all t.used (made t) (omega arith) in
       record {
-        fits = fits;
         places = places ∙ p;
         same = is ∙ (ap (take t.used) g.is ∙ back);
         more_needed = omega arith;
@@ -97,8 +97,8 @@ module _ (parts : ℕ) (t : NodeTable) (product : Edge) (l : Limit) (s : SoundTa
   pub used_grows : (t' : NodeTable) (r : Option Edge) → Built parts (all_needs parts t product l) t t' product l r → t.used ≤ t'.used
   used_grows t' r b =
       let g = b.grew.grown in
-      let n = made_length t s.fits in
-      let n' = made_length t' b.grew.fits in
+      let n = made_length t in
+      let n' = made_length t' in
       let e = ap length g.is in
       let a = length-append (made t) g.more in
       omega arith

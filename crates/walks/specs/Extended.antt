@@ -10,7 +10,7 @@ use Rattle.diagrams.specs.Held.{In, node_table}
 use Rattle.diagrams.specs.Apply.{edge_at, Bit, Grown, Allows}
 use Rattle.tables.specs.declared.NodeTable.{NodeTable}
 use Rattle.limits.specs.declared.Limit.{Limit}
-use Rattle.tables.specs.Places.{made, room, Fits, Grew, Table, TooFew}
+use Rattle.tables.specs.Places.{made, room, Grew, Table, TooFew}
 
 -- 1 where the limit is kept, 0 elsewhere
 abbrev pub kept : Limit → List Bool → ℤ
@@ -68,9 +68,8 @@ pub record Built (parts : ℕ) (ts : List (List ℤ)) (t t' : NodeTable) (produc
   pub grew : Grew parts ts t t'
   pub edge : MatchOption r (TooFew ts t') (λ e. Denotes parts t t' product l e)
 
--- a whole table, of small values
+-- a sound table, of small values
 pub record SoundTable (parts : ℕ) (t : NodeTable) : Type 0 where
-  pub fits : Fits t
   pub sound : Sound parts (made t)
   pub ordered : Ordered parts (made t)
   pub small : (k : ℕ) (n : Node) → slice_get (made t) k ≡ Some n → unsigned_abs n.value ≤ 2 ^ 29
@@ -88,7 +87,6 @@ pub record Extended (parts : ℕ) (t t' : NodeTable) (product : Edge) (l : Limit
 
 -- the nodes are as they were, and more are needed than there are places
 pub record Refused (parts : ℕ) (t t' : NodeTable) (product : Edge) (l : Limit) : Type 0 where
-  pub fits : Fits t'
   pub places : room t' ≡ room t
   pub same : made t' ≡ made t
   pub more_needed : room t < length (once (all_needs parts t product l))

@@ -6,7 +6,7 @@ ghost use Rattle.limits.specs.Limits.{sum};
 ghost use Rattle.diagrams.specs.Nodes.{From};
 ghost use Rattle.diagrams.specs.Apply.{Answers, Open, Asked, AllRight, Settled, plus_edge, Allows};
 ghost use Rattle.questions.specs.Products.{Squares};
-ghost use Rattle.tables.specs.Chains.{made, Fits};
+ghost use Rattle.tables.specs.Chains.{made};
 ghost use Rattle.tables.specs.Places.{Table, part_at, CanSettle};
 ghost use Rattle.walks.specs.Extended.{Begins, Builds, CanBuild, Built, SoundTable, Extended, Refused};
 ghost use Rattle.walks.specs.Stack.{frames_of, Went, CanOpen};
@@ -21,7 +21,7 @@ use tables::NodeTable;
 
 // The least part of the question's nodes.
 fn top(table: &NodeTable, q: Question) -> u8
-    requires { (Fits table.now) × ((From (made table.now) 0 q.left.child) × (From (made table.now) 0 q.right.child)) }
+    requires { (From (made table.now) 0 q.left.child) × (From (made table.now) 0 q.right.child) }
     ensures { result ≡ min (part_at (made table.now) q.left.child) (part_at (made table.now) q.right.child) }
 {
     let a = table.part_of(q.left.child);

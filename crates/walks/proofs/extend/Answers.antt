@@ -10,7 +10,7 @@ build-requires g c = record { begins = c.requires.begins; can = (all_needs c.arg
 pub truncate-requires : goal.truncate-requires
 truncate-requires g c =
     let b = c.in-None.ensures (all_needs c.args.parts c.args.table.now c.args.product c.args.limit.now) (builds c.args.parts c.args.table.now c.args.product c.args.limit.now c.requires.table) in
-    (b.grew.fits, subst (λ n. n ≤ c.build.new.table.used) (sym c.used-before.ensures.used) (used_grows c.args.parts c.args.table.now c.args.product c.args.limit.now c.requires.table c.build.new.table _ b))
+    subst (λ n. n ≤ c.build.new.table.used) (sym c.used-before.ensures.used) (used_grows c.args.parts c.args.table.now c.args.product c.args.limit.now c.requires.table c.build.new.table _ b)
 
 pub returns-in-Some : goal.returns-in-Some
 returns-in-Some g c =
@@ -21,4 +21,4 @@ pub returns-in-None : goal.returns-in-None
 returns-in-None g c =
     refused c.args.parts c.args.table.now c.args.product c.args.limit.now c.requires.table c.build.new.table c.truncate.new.self
     (c.in-None.ensures (all_needs c.args.parts c.args.table.now c.args.product c.args.limit.now) (builds c.args.parts c.args.table.now c.args.product c.args.limit.now c.requires.table))
-    c.truncate.ensures.fits c.truncate.ensures.places (c.truncate.ensures.done ∙ ap (λ n. take n (made c.build.new.table)) c.used-before.ensures.used)
+    c.truncate.ensures.places (c.truncate.ensures.done ∙ ap (λ n. take n (made c.build.new.table)) c.used-before.ensures.used)

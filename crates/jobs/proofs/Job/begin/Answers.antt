@@ -1,14 +1,9 @@
 use Rattle.tables.specs.Chains.{made}
 use Rattle.jobs.proofs.Kept.{empty_books}
-use Rattle.jobs.proofs.Ready.{fits_of}
 use Rattle.jobs.proofs.Job.begin.Goals as goal
-
-pub clear-requires : goal.clear-requires
-clear-requires c = fits_of c.args.self.now.table c.args.self.now.fits
 
 pub invariant_of-self : goal.invariant_of-self
 invariant_of-self c = record {
   few = c.if-parts-gt48.false;
-  fits = ∣ c.clear.ensures.fits ∣₁;
   books = empty_books c.args.parts (made c.clear.new.self) c.drop_all.new.self.records c.drop_all.new.self.count c.clear.ensures.none c.drop_all.ensures.count;
 }

@@ -6,6 +6,5 @@ use Rattle.jobs.proofs.Job.new.Goals as goal
 pub invariant_of-result : goal.invariant_of-result
 invariant_of-result c = record {
   few = omega arith;
-  fits = ∣ c.over.ensures.fits ∣₁;
   books = empty_books 0 (made c.over.result) c.empty.result.records c.empty.result.count c.over.ensures.none c.empty.ensures;
 }

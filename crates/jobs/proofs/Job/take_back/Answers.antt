@@ -1,21 +1,18 @@
 use Rattle.std.proofs.Common.{◌<◌, cond, length, sym, ap, arith}
 use Rattle.limits.specs.Refusals.{done, refused}
-use Rattle.tables.specs.Chains.{made, Fits}
+use Rattle.tables.specs.Chains.{made}
 use Rattle.tables.proofs.Tables.{made_length}
 use Rattle.jobs.specs.Calls.{standing}
 use Rattle.jobs.proofs.Kept.{back_fits, back_books, back_limits, back_some}
-use Rattle.jobs.proofs.Ready.{fits_of}
 use Rattle.jobs.proofs.Job.take_back.Goals as goal
 
 pub truncate-requires : goal.truncate-requires
 truncate-requires c =
-    let fits : Fits c.args.self.now.table = fits_of c.args.self.now.table c.args.self.now.fits in
-    (fits, omega (arith, made_length c.args.self.now.table fits, back_fits c.args.self.now.parts (made c.args.self.now.table) c.args.self.now.ledger.records c.drop_last-mark.new.self.records c.args.self.now.ledger.count c.drop_last-mark.new.self.count c.drop_last-mark.result c.args.self.now.books c.drop_last-mark.ensures.records c.drop_last-mark.ensures.count c.drop_last-mark.ensures.mark))
+    omega (arith, made_length c.args.self.now.table, back_fits c.args.self.now.parts (made c.args.self.now.table) c.args.self.now.ledger.records c.drop_last-mark.new.self.records c.args.self.now.ledger.count c.drop_last-mark.new.self.count c.drop_last-mark.result c.args.self.now.books c.drop_last-mark.ensures.records c.drop_last-mark.ensures.count c.drop_last-mark.ensures.mark)
 
 pub invariant_of-self : goal.invariant_of-self
 invariant_of-self c = record {
   few = c.args.self.now.few;
-  fits = ∣ c.truncate.ensures.fits ∣₁;
   books = back_books c.args.self.now.parts (made c.args.self.now.table) c.args.self.now.ledger.records c.drop_last-mark.new.self.records c.args.self.now.ledger.count c.drop_last-mark.new.self.count c.drop_last-mark.result c.args.self.now.books c.drop_last-mark.ensures.records c.drop_last-mark.ensures.count c.drop_last-mark.ensures.mark (made c.truncate.new.self) c.truncate.ensures.done;
 }
 

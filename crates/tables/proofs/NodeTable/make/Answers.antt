@@ -15,10 +15,10 @@ returns-in_err-k c = λ parts ts table m.
     let d : c.args.fit ≡ c.args.out → ⊥ = search rules in
     let p = c.in_err-k.ensures in
     subst (Made parts ts c.args.self.now c.push.new.self c.args.part c.args.fit c.args.out) (sym c.from_residual.ensures)
-    (make_full parts ts c.args.self.now table c.args.part c.args.fit c.args.out m _ (sym c.node_of-n.ensures) d c.in_default.ensures c.push.new.self p.fits p.places p.done.0 p.done.1)
+    (make_full parts ts c.args.self.now table c.args.part c.args.fit c.args.out m _ (sym c.node_of-n.ensures) d c.in_default.ensures c.push.new.self p.places p.done.0 p.done.1)
 
 pub returns : goal.returns
 returns c = λ parts ts table m.
     let d : c.args.fit ≡ c.args.out → ⊥ = search rules in
     let p = c.in_ok-k.ensures in
-    make_new parts ts c.args.self.now table c.args.part c.args.fit c.args.out m _ (sym c.node_of-n.ensures) d c.in_default.ensures c.push.new.self p.fits p.places c.in_ok-k.k p.done.0 p.done.2 _ (sym c.edge_to-2.ensures)
+    make_new parts ts c.args.self.now table c.args.part c.args.fit c.args.out m _ (sym c.node_of-n.ensures) d c.in_default.ensures c.push.new.self p.places c.in_ok-k.k p.done.0 p.done.2 _ (sym c.edge_to-2.ensures)

@@ -1,16 +1,9 @@
-use Rattle.std.proofs.Common.{◌<◌, length, rules}
-use Rattle.tables.proofs.Tables.{made_below, nth_nodes}
+use Rattle.std.proofs.Common.{arith}
+use Rattle.tables.proofs.Tables.{used_below, made_length, nth_made}
 use Rattle.tables.proofs.NodeTable.node.Goals as goal
 
-pub bounds-places-k : goal.bounds-places-k
-bounds-places-k c =
-    let h : c.args.k < length c.args.self.now.places.now = made_below c.args.self.now.places.now c.args.self.now.used c.args.k c.requires in
-    search rules
-
-pub offset_bounds-places-k : goal.offset_bounds-places-k
-offset_bounds-places-k c =
-    let h : c.args.k < length c.args.self.now.places.now = made_below c.args.self.now.places.now c.args.self.now.used c.args.k c.requires in
-    search rules
+pub bounds-self-k : goal.bounds-self-k
+bounds-self-k c = omega (arith, c.requires, made_length c.args.self.now, used_below c.args.self.now)
 
 pub returns : goal.returns
-returns c = nth_nodes c.args.self.now.places.now c.args.self.now.used c.args.k c.requires
+returns c = nth_made c.args.self.now c.args.k (omega (arith, c.requires, made_length c.args.self.now))

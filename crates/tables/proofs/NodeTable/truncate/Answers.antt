@@ -1,22 +1,10 @@
-use Rattle.std.proofs.Common.{◌-◌, take, sym, ap, ◌∙◌, arith}
-use Rattle.tables.specs.Chains.{made}
-use Rattle.tables.proofs.Linked.{take_less, made_all}
+use Rattle.std.proofs.Common.{◌≡◌, take, ap, ◌∙◌, arith}
+use Rattle.tables.specs.Buckets.{nodes_of}
+use Rattle.tables.proofs.Linked.{made_less}
 use Rattle.tables.proofs.NodeTable.truncate.Goals as goal
 
-pub loop-self-preserved : goal.loop-self-preserved
-loop-self-preserved c =
-    let r = c.remove_last.ensures in
-    let l = r.less in
-    let t = c.loop-self-test.true in
-    (r.fits, omega arith, r.places ∙ c.loop-self.invariant.2, ap (take c.args.to) r.done ∙ (sym (take_less (made c.loop-self.self) c.args.to (c.loop-self.self.used - 1) (omega arith)) ∙ c.loop-self.invariant.3))
-
-pub returns : goal.returns
-returns c =
-    let v = c.loop-self.invariant in
-    let a = v.0.low in
-    let t = c.loop-self-test.false in
-    record {
-      fits = v.0;
-      places = v.2;
-      done = sym (made_all c.loop-self.self.places.now c.loop-self.self.used c.args.to (omega arith)) ∙ v.3;
-    }
+pub returns-clause-done : goal.returns-clause-done
+returns-clause-done c =
+    let v = c.loop-last.invariant in
+    let at : c.loop-last.self.used ≡ c.args.to = omega arith in
+    ap (λ k. nodes_of (take k c.loop-last.self.places.now)) at ∙ made_less c.args.self.now.places.now c.loop-last.self.places.now c.args.to c.args.self.now.used c.requires v.4

@@ -1,13 +1,12 @@
-use Rattle.std.proofs.Common.{◌≡◌, ◌≤◌, take}
-use Rattle.tables.specs.Chains.{made, room, Fits}
+use Rattle.std.proofs.Common.{◌≡◌, ◌≤◌}
+use Rattle.tables.specs.Buckets.{nodes_of}
+use Rattle.tables.specs.Chains.{room}
 use Rattle.tables.proofs.NodeTable.truncate.Given as goal
 
-abbrev pub invariant-loop-self : goal.invariant-loop-self
-invariant-loop-self l =
-    Fits l.self
-    × (l.to ≤ l.self.used)
+abbrev pub invariant-loop-last : goal.invariant-loop-last
+invariant-loop-last l =
+    (l.self.used ≡ l.last)
+    × (l.to ≤ l.last)
+    × (l.last ≤ l.initial.self.used)
     × (room l.self ≡ room l.initial.self)
-    × (take l.to (made l.self) ≡ take l.to (made l.initial.self))
-
-abbrev pub decreases-loop-self : goal.decreases-loop-self
-decreases-loop-self l = l.self.used
+    × (nodes_of l.self.places.now ≡ nodes_of l.initial.self.places.now)

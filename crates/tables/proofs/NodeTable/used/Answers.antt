@@ -1,6 +1,6 @@
-use Rattle.std.proofs.Common.{sym, refl}
+use Rattle.std.proofs.Common.{sym}
 use Rattle.tables.proofs.Tables.{made_length}
 use Rattle.tables.proofs.NodeTable.used.Goals as goal
 
-pub returns : goal.returns
-returns c = record { used = refl; nodes = λ fits. sym (made_length c.args.self.now fits) }
+pub returns-clause-nodes : goal.returns-clause-nodes
+returns-clause-nodes c = sym (made_length c.args.self.now)
