@@ -10,8 +10,9 @@ use limits::Sense;
 pub mod laws;
 
 /// What an edge leads to: the terminal, or the node at a place of a table.
-#[derive(Clone, Copy, PartialEq, Eq, Drop)]
+#[derive(Clone, Copy, Default, PartialEq, Eq, Drop)]
 pub enum Child {
+    #[default]
     Terminal,
     Place(u32),
 }
@@ -39,7 +40,7 @@ pub struct Node {
 }
 
 /// The constant and what the child denotes, added up.
-#[derive(Clone, Copy, PartialEq, Eq, Drop)]
+#[derive(Clone, Copy, Default, PartialEq, Eq, Drop)]
 pub struct Edge {
     pub constant: i32,
     pub child: Child,
@@ -69,8 +70,9 @@ impl Edge {
 }
 
 /// What is asked of two edges: whether one is at most or at least the other, as 1 or 0, or their product.
-#[derive(Clone, Copy, PartialEq, Eq, Drop)]
+#[derive(Clone, Copy, Default, PartialEq, Eq, Drop)]
 pub enum Operation {
+    #[default]
     AtMost,
     AtLeast,
     Times,
@@ -89,7 +91,7 @@ impl From<Sense> for Operation {
 }
 
 /// An operation and its two edges.
-#[derive(Clone, Copy, PartialEq, Eq, Drop)]
+#[derive(Clone, Copy, Default, PartialEq, Eq, Drop)]
 pub struct Question {
     pub operation: Operation,
     pub left: Edge,

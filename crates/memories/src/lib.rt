@@ -1,12 +1,14 @@
 //! Tables that remember the results of questions, and may forget them.
 #![tactic(auto)]
 
-ghost use Rattle.std.specs.Prelude.{◌≡◌, ℕ, ◌%◌, ◌<◌, ◌≤◌, ◌⊎◌, length, set, replicate, Some, None, MatchOption, ◌≢◌, slice_index_or, slice_set};
+ghost use Rattle.std.specs.Prelude.{◌≡◌, ◌%◌, ◌<◌, ◌⊎◌, ◌≢◌, [], length, Some, MatchOption, SomeIff, All, AllPairs, Contains, slice_set};
+ghost use Rattle.std.specs.List.{HoldsAt};
 ghost use Rattle.diagrams.specs.declared.Edge.{Edge};
 ghost use Rattle.diagrams.specs.declared.Question.{Question};
-ghost use Rattle.memories.specs.Held.{operation_number, child_number, edge_hash, question_hash, pair, InSlot, InRing, BothAsk, Written};
+ghost use Rattle.memories.specs.Held.{edge_hash, question_hash, pair, InSlot, Written};
 
-use diagrams::{Child, Edge, Operation, Question};
+use arrayvec::ArrayVec;
+use diagrams::{Edge, Question};
 
 /// A remembering table: it means the set of the pairs of a question and its result that it holds now.
 pub trait Memory {
@@ -28,7 +30,7 @@ pub trait Memory {
 }
 
 /// A table that holds nothing.
-#[derive(Clone, Copy, Drop)]
+#[derive(Clone, Copy, Default, Drop)]
 pub struct NoMemory {}
 
 impl NoMemory {
@@ -51,88 +53,25 @@ impl Memory for NoMemory {
 }
 
 /// A question and its result.
-#[derive(Clone, Copy, Drop)]
+#[derive(Clone, Copy, Default, PartialEq, Eq, Drop)]
 pub struct Remembered {
     question: Question,
     edge: Edge,
 }
 
-// A child as a number: 0 for the terminal.
-fn child_number(c: Child) -> usize
-    ensures is { result ≡ child_number c }
-    ensures small { result ≤ 4294967296 }
-{
-    match c {
-        Child::Terminal => 0,
-        Child::Place(k) => k as usize + 1,
-    }
-}
-
-fn operation_number(operation: Operation) -> usize
-    ensures { result ≡ operation_number operation }
-{
-    match operation {
-        Operation::AtMost => 0,
-        Operation::AtLeast => 1,
-        Operation::Times => 2,
-    }
-}
-
-fn edge_hash(x: Edge) -> usize
-    ensures is { result ≡ edge_hash x }
+// An edge as a number, for the slot of a question.
+fn edge_hash(edge: Edge) -> usize
+    ensures is { result ≡ edge_hash edge }
     ensures small { result < 14000000000000000 }
 {
-    child_number(x.child) * 1_618_033 + x.constant.unsigned_abs() as usize * 2_718_281
+    edge.child.number() * 1_618_033 + edge.constant.unsigned_abs() as usize * 2_718_281
 }
 
-// The slot of a question.
-fn slot(q: &Question, slots: usize) -> usize
-    requires { 0 < slots }
-    ensures is { result ≡ question_hash q.now % slots }
-    ensures within { result < slots }
+// The slot of a question, where there is any.
+fn slot(q: &Question, slots: usize) -> Option<usize>
+    ensures { SomeIff result (0 < slots) (question_hash q.now % slots) }
 {
-    (edge_hash(q.left) + edge_hash(q.right) * 577 + operation_number(q.operation)) % slots
-}
-
-// The edge of a slot that has this question.
-fn kept(slot: Option<Remembered>, q: &Question) -> Option<Edge>
-    ensures { MatchOption result ((e : Edge) → slot ≢ Some (pair q.now e)) (λ e. slot ≡ Some (pair q.now e)) }
-{
-    match slot {
-        Some(remembered) => {
-            if remembered.question == *q {
-                Some(remembered.edge)
-            } else {
-                None
-            }
-        }
-        None => None,
-    }
-}
-
-// Puts the pair into the slot of its question.
-fn put(slots: &mut [Option<Remembered>], q: Question, e: Edge)
-    ensures { slots.new ≡ slice_set slots.old (question_hash q % length slots.old) (Some (pair q e)) }
-{
-    if slots.len() > 0 {
-        let i = slot(&q, slots.len());
-        slots[i] = Some(Remembered {
-            question: q,
-            edge: e,
-        });
-    }
-}
-
-// Empties all slots.
-fn forget(slots: &mut [Option<Remembered>])
-    ensures none { (k : ℕ) → slice_index_or slots.new k None ≡ None }
-    ensures length { length slots.new ≡ length slots.old }
-{
-    let mut i = 0;
-    while i < slots.len() {
-        slots[i] = None;
-        i += 1;
-    }
+    (edge_hash(q.left) + edge_hash(q.right) * 577 + q.operation as usize).checked_rem(slots)
 }
 
 /// A table with a slot picked from the question, over lent slots.
@@ -154,11 +93,9 @@ impl<'a> Memory for Slots<'a> {
     ghost holds = { λ s q e. InSlot s.slots.now q e };
 
     fn ask(&self, q: &Question) -> Option<Edge> {
-        let slots = &*self.slots;
-        if slots.len() == 0 {
-            return None;
-        }
-        kept(slots[slot(q, slots.len())], q)
+        let i = slot(q, self.slots.len())?;
+        let remembered = self.slots[i].filter(|remembered| remembered.question == *q)?;
+        Some(remembered.edge)
     }
 
     /// The pair takes the slot of its question.
@@ -166,73 +103,72 @@ impl<'a> Memory for Slots<'a> {
         ensures old { (p : Question) (f : Edge) → InSlot self.new.slots.now p f → InSlot self.old.slots.now p f ⊎ ((p ≡ q) × (f ≡ e)) }
         ensures slots { self.new.slots.now ≡ slice_set self.old.slots.now (question_hash q % length self.old.slots.now) (Some (pair q e)) }
     {
-        put(self.slots, q, e);
+        if let Some(i) = slot(&q, self.slots.len()) {
+            self.slots[i] = Some(Remembered {
+                question: q,
+                edge: e,
+            });
+        }
     }
 
     fn empty(&mut self) {
-        forget(self.slots);
+        self.slots.fill(None);
     }
 }
 
-/// A table of the latest 64 pairs.
+/// A table of the latest 64 pairs, the oldest place first.
 #[derive(Drop)]
 pub struct Latest {
-    ring: [Option<Remembered>; 64],
-    next: usize,
-    ghost within: { next < 64 },
-    ghost once: { (i j : ℕ) → BothAsk ring i j → i ≡ j },
+    pairs: ArrayVec<Remembered, 64>,
+    ghost once: { AllPairs (λ x y. x.question ≢ y.question) pairs.items },
 }
 
-// The place of a question, with its edge.
-fn find(ring: &[Option<Remembered>], q: &Question) -> Option<(usize, Edge)>
-    ensures { MatchOption result ((k : ℕ) (e : Edge) → slice_index_or ring.now k None ≢ Some (pair q.now e)) (λ p. (p.0 < length ring.now) × (slice_index_or ring.now p.0 None ≡ Some (pair q.now p.1))) }
+// The place of a question among the pairs.
+fn place(pairs: &[Remembered], q: &Question) -> Option<usize>
+    ensures { MatchOption result (All (λ x. x.question ≢ q.now) pairs.now) (λ i. (i < length pairs.now) × HoldsAt (λ x. x.question ≡ q.now) pairs.now i) }
 {
-    for i in 0..ring.len() {
-        if let Some(e) = kept(ring[i], q) {
-            return Some((i, e));
-        }
-    }
-    None
+    pairs
+        .iter()
+        .position(|remembered| remembered.question == *q)
 }
 
 impl Latest {
     /// A table that holds no pair yet.
     pub fn new() -> Latest
-        ensures { result.ring ≡ replicate 64 None }
+        ensures { result.pairs.items ≡ [] }
     {
         Latest {
-            ring: [None; 64],
-            next: 0,
+            pairs: ArrayVec::new(),
         }
     }
 }
 
 impl Memory for Latest {
-    ghost holds = { λ s q e. InRing s.ring q e };
+    ghost holds = { λ s q e. Contains s.pairs.items (pair q e) };
 
     fn ask(&self, q: &Question) -> Option<Edge> {
-        match find(&self.ring, q) {
-            Some((_, e)) => Some(e),
-            None => None,
-        }
+        let i = place(&self.pairs, q)?;
+        Some(self.pairs[i].edge)
     }
 
-    /// The pair takes the place of its question, or else the oldest one's.
+    /// The pair takes the place of its question, or else stands behind the others, and the oldest of 64 goes.
     fn note(&mut self, q: Question, e: Edge)
-        ensures old { (p : Question) (f : Edge) → InRing self.new.ring p f → InRing self.old.ring p f ⊎ ((p ≡ q) × (f ≡ e)) }
-        ensures written { Written self.old.ring self.old.next q e self.new.ring self.new.next }
+        ensures old { (p : Question) (f : Edge) → Contains self.new.pairs.items (pair p f) → Contains self.old.pairs.items (pair p f) ⊎ ((p ≡ q) × (f ≡ e)) }
+        ensures written { Written self.old.pairs.items q e self.new.pairs.items }
     {
-        let pair = Some(Remembered {
+        let pair = Remembered {
             question: q,
             edge: e,
-        });
-        match find(&self.ring, &q) {
-            Some((i, _)) => {
-                self.ring[i] = pair;
+        };
+        match place(&self.pairs, &q) {
+            Some(i) => {
+                self.pairs[i] = pair;
             }
             None => {
-                self.ring[self.next] = pair;
-                self.next = (self.next + 1) % 64;
+                if self.pairs.is_full() {
+                    self.pairs.remove(0);
+                }
+                self.pairs.push(pair);
             }
         }
     }

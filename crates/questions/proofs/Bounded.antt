@@ -6,7 +6,7 @@ use Rattle.limits.specs.declared.Sense.TheVariants.{AtMost, AtLeast}
 use Rattle.limits.specs.Limits.{sum, within, keeps}
 use Rattle.diagrams.specs.Needs.{indicator}
 use Rattle.diagrams.specs.Apply.{meaning, Fit}
-use Rattle.questions.specs.Bounds.{operation_of}
+use Rattle.diagrams.specs.Apply.{operation_of}
 
 pub fit_sense : (s : Sense) (a b : ℤ) → nat_abs a ≤ 2 ^ 28 → nat_abs b ≤ 2 ^ 28 → Fit (operation_of s) a b
 fit_sense AtMost a b h k = (h, k)

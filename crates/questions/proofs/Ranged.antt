@@ -1,19 +1,22 @@
 -- Ranges of sums, and the comparisons that they decide.
-use Rattle.std.proofs.Common.{◌≡◌, ℕ, zero, suc, ◌+◌, ◌-◌, ◌*◌, ◌<◌, ◌≤◌, Bool, true, false, cond, ◌⊎◌, List, [], ◌∷◌, length, get_or, drop, set, replicate, ℤ, pos, ◌+ℤ◌, nat_abs, ◌≤ℤ◌, ◌<ℤ◌, sym, refl, ap, ◌∙◌, subst, inl, inr, arith}
+use Rattle.std.proofs.Common.{◌≡◌, ℕ, zero, suc, ◌+◌, ◌-◌, ◌*◌, ◌<◌, ◌≤◌, Bool, true, false, cond, ◌⊎◌, List, [], ◌∷◌, length, get_or, drop, set, ℤ, pos, ◌+ℤ◌, nat_abs, ◌≤ℤ◌, sym, refl, ap, ◌∙◌, subst, inl, inr, Some, IfSome, arith}
 use lib.Signed.{lt_z, le_z}
 use Rattle.std.proofs.lemmas.List.{get_or-set_same, get_or-set_other}
 use Rattle.std.proofs.lemmas.Int.{ints}
 use Rattle.std.proofs.lemmas.Bool.{cases_lt}
+use Rattle.std.specs.Bool.{then_some}
+use mathlib.Core.Bool.{beq}
 use Rattle.limits.specs.Limits.{sum}
 use Rattle.diagrams.specs.declared.Child.TheVariants.{Terminal}
 use Rattle.diagrams.specs.declared.Edge.{Edge}
 use Rattle.diagrams.specs.declared.Operation.{Operation}
 use Rattle.diagrams.specs.declared.Operation.TheVariants.{AtMost, AtLeast, Times}
 use Rattle.diagrams.specs.declared.Question.{Question}
-use Rattle.diagrams.specs.Needs.{indicator}
-use Rattle.diagrams.specs.Apply.{meaning, Decides, constant_edge}
+use Rattle.diagrams.specs.Apply.{Decides, constant_edge}
 use Rattle.diagrams.proofs.Tail.{sum_at}
 use Rattle.questions.specs.declared.Range.{Range}
+use Rattle.questions.specs.Comparisons.{compared}
+use Rattle.questions.proofs.Constants.{told}
 use Rattle.questions.specs.Ranges.{no_range, wider, range_from, RangesAre, CanRange, SmallRange}
 
 -- a value in a range
@@ -59,74 +62,40 @@ ranges_small parts ws can rs i j each h k = subst SmallRange (sym (each j h k)) 
 pub ranges_start : (parts : ℕ) (ws : List ℤ) (rs : List Range) → get_or rs parts no_range ≡ no_range → RangesAre parts ws parts rs
 ranges_start parts ws rs e j h k = let z : parts ≡ j = omega arith in let y : 0 ≡ parts - j = omega arith in ap (λ i. get_or rs i no_range) (sym z) ∙ (e ∙ ap (range_from ws j) y)
 
-pub ranges_step : (parts : ℕ) (ws : List ℤ) (rs : List Range) (i : ℕ) (g : Range) → 0 < i → i ≤ parts → parts < length rs → RangesAre parts ws i rs → g ≡ wider (get_or rs i no_range) (get_or ws (i - 1) (pos 0)) → RangesAre parts ws (i - 1) (set rs (i - 1) g)
-ranges_step parts ws rs i g some low room each is j h k = by (cases_lt (i - 1) j)
+pub ranges_step : (parts : ℕ) (ws : List ℤ) (rs : List Range) (i : ℕ) (g : Range) → i < parts → parts < length rs → RangesAre parts ws (suc i) rs → g ≡ wider (get_or rs (suc i) no_range) (get_or ws i (pos 0)) → RangesAre parts ws i (set rs i g)
+ranges_step parts ws rs i g low room each is j h k = by (cases_lt i j)
   where
-    by : (i - 1 < j) ⊎ (j ≤ i - 1) → get_or (set rs (i - 1) g) j no_range ≡ range_from ws j (parts - j)
-    by (inl l) = get_or-set_other rs (i - 1) j g no_range (omega arith) ∙ each j (omega arith) k
+    here : get_or (set rs i g) i no_range ≡ range_from ws i (suc (parts - suc i))
+    here = get_or-set_same rs i g no_range (omega arith) ∙ (is ∙ ap (λ r. wider r (get_or ws i (pos 0))) (each (suc i) (omega arith) (omega arith)))
+
+    by : (i < j) ⊎ (j ≤ i) → get_or (set rs i g) j no_range ≡ range_from ws j (parts - j)
+    by (inl l) = get_or-set_other rs i j g no_range (omega arith) ∙ each j (omega arith) k
     by (inr l) =
-        let z : i - 1 ≡ j = omega arith in
-        let y : suc (parts - i) ≡ parts - j = omega arith in
-        let x : i ≡ suc j = omega arith in
-        ap (λ m. get_or (set rs (i - 1) g) m no_range) (sym z)
-        ∙ (get_or-set_same rs (i - 1) g no_range (omega arith)
-        ∙ (is
-        ∙ (ap (λ m. wider m (get_or ws (i - 1) (pos 0))) (each i (omega arith) low)
-        ∙ (ap (λ m. wider (range_from ws i (parts - i)) (get_or ws m (pos 0))) z
-        ∙ (ap (λ m. wider (range_from ws m (parts - i)) (get_or ws j (pos 0))) x
-        ∙ ap (range_from ws j) y)))))
+        let z : i ≡ j = omega arith in
+        let y : suc (parts - suc i) ≡ parts - i = omega arith in
+        subst (λ m. get_or (set rs i g) m no_range ≡ range_from ws m (parts - m)) z (here ∙ ap (range_from ws i) y)
 
--- what a test of constants tells
-pub no_more_told : (x y : ℤ) (r : Bool) → r ≡ le_z x y → r ≡ true → x ≤ℤ y
-no_more_told x y r e t = let z : le_z x y ≡ true = sym e ∙ t in omega (arith, ints)
+-- a comparison that comes out alike at both ends of a range comes out so between them
+between : (o : Operation) (a b low high v : ℤ) (k : Bool) → compared o (a +ℤ low) b ≡ Some k → compared o (a +ℤ high) b ≡ Some k → low ≤ℤ v → v ≤ℤ high → compared o (a +ℤ v) b ≡ Some k
+between AtMost a b low high v true l h m n = let e : le_z (a +ℤ high) b ≡ true = cc in let g : true ≡ le_z (a +ℤ v) b = omega (arith, ints) in ap Some (sym g)
+between AtMost a b low high v false l h m n = let e : le_z (a +ℤ low) b ≡ false = cc in let g : false ≡ le_z (a +ℤ v) b = omega (arith, ints) in ap Some (sym g)
+between AtLeast a b low high v true l h m n = let e : le_z b (a +ℤ low) ≡ true = cc in let g : true ≡ le_z b (a +ℤ v) = omega (arith, ints) in ap Some (sym g)
+between AtLeast a b low high v false l h m n = let e : le_z b (a +ℤ high) ≡ false = cc in let g : false ≡ le_z b (a +ℤ v) = omega (arith, ints) in ap Some (sym g)
+between Times a b low high v k l h m n = cc
 
-pub more_told : (x y : ℤ) (r : Bool) → r ≡ le_z x y → r ≡ false → y <ℤ x
-more_told x y r e t = let z : le_z x y ≡ false = sym e ∙ t in omega (arith, ints)
+no_product : (a b low : ℤ) (k : Bool) → compared Times (a +ℤ low) b ≡ Some k → ⊥
+no_product a b low k h = cc
 
--- the four decisions
-module _ (q : Question) (low high : ℤ) (e : Edge) (right_is : q.right.child ≡ Terminal) where
-  not_times : (o : Operation) → q.operation ≡ o → (o ≡ Times → ⊥) → q.operation ≡ Times → ⊥
-  not_times o p n z = n (sym p ∙ z)
+decides : (q : Question) (low high : ℤ) (k : Bool) (e : Edge) → q.right.child ≡ Terminal → compared q.operation (q.left.constant +ℤ low) q.right.constant ≡ Some k → compared q.operation (q.left.constant +ℤ high) q.right.constant ≡ Some k → e ≡ constant_edge k → Decides q low high e
+decides q low high k e right_is l h is = record {
+  compares = λ t. absurd (no_product q.left.constant q.right.constant low k (subst (λ o. compared o (q.left.constant +ℤ low) q.right.constant ≡ Some k) t l));
+  right_is = right_is;
+  child_is = ap (λ z. z.child) is;
+  equal = λ v m n. ap (λ z. z.constant) is ∙ sym (told q.operation (q.left.constant +ℤ v) q.right.constant k (between q.operation q.left.constant q.right.constant low high v k l h m n));
+}
 
-  most_least : AtMost ≡ Times → ⊥
-  most_least p = let z : ◌≡◌ {A = ℕ} 0 1 = cc in absurd (omega arith)
-
-  least_times : AtLeast ≡ Times → ⊥
-  least_times p = let z : ◌≡◌ {A = ℕ} 0 1 = cc in absurd (omega arith)
-
-  decides : (o : Operation) → q.operation ≡ o → (o ≡ Times → ⊥) → (b : Bool) → e ≡ constant_edge b → ((v : ℤ) → low ≤ℤ v → v ≤ℤ high → indicator b ≡ meaning o (q.left.constant +ℤ v) q.right.constant) → Decides q low high e
-  decides o p n b is h = record {
-    compares = not_times o p n;
-    right_is = right_is;
-    child_is = ap (λ z. z.child) is;
-    equal = λ v l m. ap (λ z. z.constant) is ∙ (h v l m ∙ ap (λ z. meaning z (q.left.constant +ℤ v) q.right.constant) (sym p));
-  }
-
-  pub always_most : q.operation ≡ AtMost → e ≡ constant_edge true → (q.left.constant +ℤ high) ≤ℤ q.right.constant → Decides q low high e
-  always_most p is h = decides AtMost p most_least true is (λ v l m. ap indicator (at v m))
-    where
-      at : (v : ℤ) → v ≤ℤ high → true ≡ le_z (q.left.constant +ℤ v) q.right.constant
-      at v m = omega (arith, ints)
-
-  pub never_most : q.operation ≡ AtMost → e ≡ constant_edge false → q.right.constant <ℤ (q.left.constant +ℤ low) → Decides q low high e
-  never_most p is h = decides AtMost p most_least false is (λ v l m. ap indicator (at v l))
-    where
-      at : (v : ℤ) → low ≤ℤ v → false ≡ le_z (q.left.constant +ℤ v) q.right.constant
-      at v m = omega (arith, ints)
-
-  pub always_least : q.operation ≡ AtLeast → e ≡ constant_edge true → q.right.constant ≤ℤ (q.left.constant +ℤ low) → Decides q low high e
-  always_least p is h = decides AtLeast p least_times true is (λ v l m. ap indicator (at v l))
-    where
-      at : (v : ℤ) → low ≤ℤ v → true ≡ le_z q.right.constant (q.left.constant +ℤ v)
-      at v m = omega (arith, ints)
-
-  pub never_least : q.operation ≡ AtLeast → e ≡ constant_edge false → (q.left.constant +ℤ high) <ℤ q.right.constant → Decides q low high e
-  never_least p is h = decides AtLeast p least_times false is (λ v l m. ap indicator (at v m))
-    where
-      at : (v : ℤ) → v ≤ℤ high → false ≡ le_z q.right.constant (q.left.constant +ℤ v)
-      at v m = omega (arith, ints)
-
-pub same_ranges : (n i : ℕ) → get_or (replicate n no_range) i no_range ≡ no_range
-same_ranges zero i = refl
-same_ranges (suc n) zero = refl
-same_ranges (suc n) (suc i) = same_ranges n i
+pub decided : (q : Question) (g : Range) (l h : Bool) (e : Edge) → q.right.child ≡ Terminal → compared q.operation (q.left.constant +ℤ g.low) q.right.constant ≡ Some l → compared q.operation (q.left.constant +ℤ g.high) q.right.constant ≡ Some h → e ≡ constant_edge l → IfSome (then_some (beq l h) e) (λ f. Decides q g.low g.high f)
+decided q g true true e r low high is = decides q g.low g.high true e r low high is
+decided q g true false e r low high is = tt
+decided q g false true e r low high is = tt
+decided q g false false e r low high is = decides q g.low g.high false e r low high is

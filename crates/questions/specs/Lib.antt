@@ -1,3 +1,4 @@
 pub mod Ranges
 pub mod Bounds
+pub mod Comparisons
 pub mod Products

@@ -1,9 +1,6 @@
-use Rattle.std.proofs.Common.{◌≡◌, ◌≤◌, length}
+use Rattle.std.proofs.Common.{◌≡◌, length}
 use Rattle.questions.specs.Ranges.{RangesAre}
 use Rattle.questions.proofs.ranges_of.Given as goal
 
-abbrev pub invariant-loop-i : goal.invariant-loop-i
-invariant-loop-i l = (l.i ≤ l.parts) × (length l.ranges ≡ 49) × RangesAre l.parts l.coefficients l.i l.ranges
-
-abbrev pub decreases-loop-i : goal.decreases-loop-i
-decreases-loop-i l = l.i
+abbrev pub invariant-loop-part : goal.invariant-loop-part
+invariant-loop-part l = record { room : length l.ranges ≡ 49; each : RangesAre l.parts l.coefficients l.part l.ranges }

@@ -1,21 +1,24 @@
-use Rattle.std.proofs.Common.{refl, inl, inr, arith}
-use Rattle.memories.proofs.Rings.{once_set, ring_set}
+use Rattle.std.proofs.Common.{◌≡◌, [], ◌∷◌, ◌++◌, ◌-◌, length, drop, set, sym, subst, rules}
+use Rattle.std.specs.List.{Contains}
+use Rattle.arrayvec.proofs.ArrayVecLemmas.{items-with_items}
+use Rattle.memories.specs.Held.{pair}
+use Rattle.memories.proofs.Pairs.{Apart, apart_set, apart_push, contains_push}
 use Rattle.memories.proofs.LatestMemory.note.Goals as goal
 
 pub invariant_of-self : goal.invariant_of-self
-invariant_of-self c = record { within = c.args.self.now.within; once = λ j k b. once_set c.args.self.now.ring c.in-Some.i c.args.q c.args.e c.args.self.now.once (λ m f a. c.args.self.now.once m c.in-Some.i (c.args.q, f, _, a, c.in-Some.ensures.1)) j k b }
+invariant_of-self c =
+    let xs = c.deref_mut.result.now in
+    let once : Apart xs = subst Apart (sym c.deref_mut.ensures.value) c.args.self.now.once in
+    record { once = subst Apart (sym (items-with_items c.args.self.now.pairs (set xs c.in-Some.i (pair c.args.q c.args.e)) (search rules))) (apart_set xs c.in-Some.i c.args.q c.args.e (search rules) (search rules) once) }
 
 pub invariant_of-self-in-None : goal.invariant_of-self-in-None
-invariant_of-self-in-None c = record { within = omega arith; once = λ j k b. once_set c.args.self.now.ring c.args.self.now.next c.args.q c.args.e c.args.self.now.once (λ m f a. absurd (c.in-None.ensures m f a)) j k b }
+invariant_of-self-in-None c =
+    let xs = c.args.self.now.pairs.items in
+    let is : c.push.new.self.items ≡ drop (length xs - 63) xs ++ pair c.args.q c.args.e ∷ [] = search rules in
+    record { once = subst Apart (sym is) (apart_push xs (length xs - 63) c.args.q c.args.e (search rules) c.args.self.now.once) }
 
-pub returns-in-Some : goal.returns-in-Some
-returns-in-Some c = record {
-  old = λ p f h. ring_set c.args.self.now.ring c.in-Some.i c.args.q c.args.e p f h;
-  written = inl (c.in-Some.i, _, c.in-Some.ensures.1, refl, refl);
-}
-
-pub returns-in-None : goal.returns-in-None
-returns-in-None c = record {
-  old = λ p f h. ring_set c.args.self.now.ring c.args.self.now.next c.args.q c.args.e p f h;
-  written = inr (c.in-None.ensures, refl, refl);
-}
+pub returns-after-is_full-clause-old : goal.returns-after-is_full-clause-old
+returns-after-is_full-clause-old c = λ p f h.
+    let xs = c.args.self.now.pairs.items in
+    let is : c.push.new.self.items ≡ drop (length xs - 63) xs ++ pair c.args.q c.args.e ∷ [] = search rules in
+    contains_push xs (length xs - 63) c.args.q c.args.e p f (subst (λ ys. Contains ys (pair p f)) is h)
