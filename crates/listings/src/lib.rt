@@ -5,17 +5,16 @@ ghost use Rattle.std.specs.Prelude.{◌≡◌, ℕ, ◌<◌, ◌≤◌, length};
 ghost use Rattle.limits.specs.Choices.{bits};
 ghost use Rattle.listings.specs.Listings.{best_text, nothing_text, fault_text, contents, fitted, Listed};
 
-use faults::write_numbers;
 use limits::Choice;
-use lines::{fits_end, goal_size, put_fits, put_goal};
-use numbers::put_bytes;
+use lines::{fits_end, put_fits};
+use numbers::cursors::Cursor;
+use texts::{fault_line, goal_text};
 
-mod decimals;
-mod faults;
 mod lines;
+mod texts;
 
 /// The grade of a choice: grams, days, or grams with a price.
-#[derive(Clone, Copy)]
+#[derive(Clone, Copy, PartialEq, Eq, Debug, Drop)]
 pub enum Grade {
     Mass(i32),
     Wait(u32),
@@ -23,7 +22,7 @@ pub enum Grade {
 }
 
 /// Where a sheet is at fault: the fault's number and layer, the record's number, and the place.
-#[derive(Clone, Copy)]
+#[derive(Clone, Copy, PartialEq, Eq, Debug, Drop)]
 pub struct FaultLine {
     pub number: u8,
     pub layer: u8,
@@ -35,34 +34,38 @@ pub struct FaultLine {
 pub fn write_best(out: &mut [u8], grade: Grade, names: &[&[u8]], choice: Choice) -> Option<usize>
     ensures { Listed (best_text grade (fitted (contents names.now) (bits (length names.now) choice.0))) out.old out.new result }
 {
-    let size = goal_size(grade);
-    if out.len() < size {
+    let goal = goal_text(grade);
+    if out.len() < goal.len() {
         return None;
     }
-    fits_end(names, choice, size, out.len())?;
-    let next = put_goal(out, 0, grade);
-    Some(put_fits(out, next, names, choice))
+    let end = fits_end(names, choice, goal.len(), out.len())?;
+    let mut cursor = Cursor::new(out, 0);
+    cursor.put_bytes(&goal);
+    put_fits(&mut cursor, names, choice);
+    Some(end)
+}
+
+// Writes one line. Where it has no room, nothing is written.
+fn write_line(out: &mut [u8], line: &[u8]) -> Option<usize>
+    ensures { Listed line.now out.old out.new result }
+{
+    if out.len() < line.len() {
+        return None;
+    }
+    out[..line.len()].copy_from_slice(line);
+    Some(line.len())
 }
 
 /// Writes the listing of a sheet that no choice keeps. Where it has no room, nothing is written.
 pub fn write_nothing(out: &mut [u8]) -> Option<usize>
     ensures { Listed nothing_text out.old out.new result }
 {
-    if out.len() < 13 {
-        return None;
-    }
-    Some(put_bytes(out, 0, b"nothing fits\n"))
+    write_line(out, b"nothing fits\n")
 }
 
 /// Writes the listing of a fault. Where it has no room, nothing is written.
 pub fn write_fault(out: &mut [u8], fault: FaultLine) -> Option<usize>
     ensures { Listed (fault_text fault.number fault.layer fault.«record» fault.place) out.old out.new result }
 {
-    write_numbers(
-        out,
-        u64::from(fault.number),
-        u64::from(fault.layer),
-        fault.record as u64,
-        fault.place as u64,
-    )
+    write_line(out, &fault_line(fault))
 }

@@ -1,29 +1,17 @@
-use Rattle.std.proofs.Common.{◌≡◌, ◌<◌, length, refl, arith, length-append, rules}
-use Rattle.limits.specs.Choices.{bits}
-use Rattle.listings.specs.Listings.{goal_line, best_text, contents, fitted}
+use Rattle.std.proofs.Common.{◌≡◌, ◌≤◌, ◌++◌, length, length-append, rules}
+use Rattle.numbers.specs.Cursors.{Puts}
+use Rattle.listings.specs.Listings.{goal_line}
+use Rattle.listings.proofs.Fitting.{chosen, from_start}
 use Rattle.listings.proofs.write_best.Goals as goal
-use Rattle.numbers.proofs.Chains.{chain}
-use Rattle.listings.proofs.Texts.{chosen, from_start}
-
-pub returns-then-out-size : goal.returns-then-out-size
-returns-then-out-size c =
-    let l = length-append (goal_line c.args.grade) (chosen c.args.names.now c.args.choice.0) in
-    let g : c.goal_size-size.result ≡ length (goal_line c.args.grade) = search rules in (omega arith, refl)
-
-pub returns-in_err-fits_end : goal.returns-in_err-fits_end
-returns-in_err-fits_end c =
-    let l = length-append (goal_line c.args.grade) (chosen c.args.names.now c.args.choice.0) in
-    let g : c.goal_size-size.result ≡ length (goal_line c.args.grade) = search rules in
-    let h = c.in_err-fits_end.ensures in
-    let z : length c.args.out.now < length (best_text c.args.grade (fitted (contents c.args.names.now) (bits (length c.args.names.now) c.args.choice.0))) = omega arith in search rules
 
 pub returns : goal.returns
 returns c =
-    let l = length-append (goal_line c.args.grade) (chosen c.args.names.now c.args.choice.0) in
-    let h = c.in_ok-fits_end.ensures in
-    let g : c.goal_size-size.result ≡ length (goal_line c.args.grade) = search rules in (
-      omega arith,
-      from_start c.args.out.now c.put_fits.new.out (best_text c.args.grade (fitted (contents c.args.names.now) (bits (length c.args.names.now) c.args.choice.0))) (omega arith)
-          (chain c.args.out.now c.put_goal-next.new.out c.put_fits.new.out 0 c.put_goal-next.result (goal_line c.args.grade) (chosen c.args.names.now c.args.choice.0)
-          c.put_goal-next.ensures.1 c.put_goal-next.ensures.0 c.put_fits.ensures.1),
-    )
+    let (at_start, whole, name) = c.new-cursor.ensures in
+    let line = goal_line c.args.grade in
+    let lines = chosen c.args.names.now c.args.choice.0 in
+    let size = length-append line lines in
+    let goal_put : Puts line c.new-cursor.result c.put_bytes.new.self = search rules in
+    let end : c.in_ok-end.end ≡ length (line ++ lines) = search (rules, size) in
+    let room : length (line ++ lines) ≤ length c.args.out.now = search (rules, size) in
+    let written = from_start c.args.out.now line lines c.new-cursor.result c.put_bytes.new.self c.put_fits.new.cursor at_start whole goal_put c.put_fits.ensures room in
+    (end, search (rules, written))

@@ -1,7 +1,7 @@
 use Rattle.std.proofs.Common.{◌+◌, ◌<◌, length, ap, arith, rules}
 use Rattle.listings.proofs.lines.fits_end.Goals as goal
 use Rattle.listings.proofs.lines.fits_end.Goals.{then-word-eq1+in_ok-end, else-word-eq1}
-use Rattle.listings.proofs.Texts.{chosen, chosen_length, chosen_out, chosen_none}
+use Rattle.listings.proofs.Fitting.{chosen, chosen_length, chosen_out, chosen_none}
 
 pub returns-in_err-end : goal.returns-in_err-end
 returns-in_err-end c =

@@ -1,5 +1,5 @@
 use Rattle.std.proofs.Common.{◌≡◌, ◌+◌, ◌≤◌, length, drop}
-use Rattle.listings.proofs.Texts.{chosen}
+use Rattle.listings.proofs.Fitting.{chosen}
 use Rattle.listings.proofs.lines.fits_end.Given as goal
 
 abbrev pub invariant-loop-name : goal.invariant-loop-name

@@ -1,9 +1,12 @@
-use Rattle.std.proofs.Common.{◌≡◌, ◌+◌, length, drop}
-use lib.Seq.{sets}
-use Rattle.listings.proofs.Texts.{chosen}
+use Rattle.std.proofs.Common.{drop}
+use Rattle.numbers.specs.declared.cursors.Cursor.{Cursor}
+use Rattle.numbers.specs.Cursors.{HasRoom, Puts}
+use Rattle.listings.proofs.Fitting.{chosen}
 use Rattle.listings.proofs.lines.put_fits.Given as goal
 
+-- the lines that are left have room, and once they are put, all are
 abbrev pub invariant-loop-name : goal.invariant-loop-name
-invariant-loop-name l =
-    (l.next + length (chosen (drop l.name-index l.names) l.word) ≡ l.at + length (chosen l.names l.initial.word))
-    × (sets l.out l.next (chosen (drop l.name-index l.names) l.word) ≡ sets l.initial.out l.at (chosen l.names l.initial.word))
+invariant-loop-name l = record {
+  room : HasRoom (chosen (drop l.name-index l.names) l.word) l.cursor;
+  all : (end : Cursor) → Puts (chosen (drop l.name-index l.names) l.word) l.cursor end → Puts (chosen l.names l.initial.word) l.initial.cursor end;
+}
