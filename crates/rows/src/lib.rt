@@ -105,24 +105,24 @@ pub struct BitEdge {
 }
 
 impl BitEdge {
-    /// The edge that goes on from a node whose part is fitted.
-    pub fn fitted(self, node: Node) -> BitEdge
+    /// The edge that goes on from a node whose part is fitted, where the edge to it has the constant 1 or 0.
+    pub fn fitted(one: bool, node: Node) -> BitEdge
         ensures child { result.child ≡ node.left }
-        ensures constant { Bit (indicator self.one +ℤ node.value) → indicator result.one ≡ indicator self.one +ℤ node.value }
+        ensures constant { Bit (indicator one +ℤ node.value) → indicator result.one ≡ indicator one +ℤ node.value }
     {
         BitEdge {
-            one: if node.value == 0 { self.one } else { !self.one },
+            one: if node.value == 0 { one } else { !one },
             child: node.left,
         }
     }
 
-    /// The edge that goes on from a node whose part is left out.
-    pub fn left_out(self, node: Node) -> BitEdge
-        ensures { result ≡ record { one = self.one; child = node.right } }
+    /// The same where the part is left out.
+    pub fn left_out(one: bool, node: Node) -> BitEdge
+        ensures { result ≡ record { one = one; child = node.right } }
     {
         BitEdge {
+            one,
             child: node.right,
-            ..self
         }
     }
 }
@@ -214,6 +214,7 @@ impl<'t, 'r, G: Grade> Reading<'t, 'r, G> {
         ensures { Lifts G.kind G.means (map G.weighs self.now.weights.now) from to best result }
     {
         let mut best = best;
+        // Over the parts' numbers and not over the weights, since `grade_at` reads a part's grade by its number.
         for j in (to..from).rev() {
             let weight = self.grade_at(j);
             best = better(best, put_on(&weight, best));
@@ -239,12 +240,8 @@ impl<'t, 'r, G: Grade> Reading<'t, 'r, G> {
         ensures { NodeBest G.kind G.means (map G.weighs self.now.weights.now) (made self.now.table.now) self.now.rows.now node one result }
     {
         let i = node.part as usize;
-        let edge = BitEdge {
-            one,
-            child: Child::Terminal,
-        };
-        let out = self.best(edge.left_out(node), i + 1);
-        let fitted = self.best(edge.fitted(node), i + 1);
+        let out = self.best(BitEdge::left_out(one, node), i + 1);
+        let fitted = self.best(BitEdge::fitted(one, node), i + 1);
         let weight = self.grade_at(i);
         better(out, put_on(&weight, fitted))
     }

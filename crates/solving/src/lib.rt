@@ -43,9 +43,9 @@ fn turned(table: &NodeTable, edge: BitEdge, i: usize, fitted: bool) -> BitEdge
         return edge;
     }
     if fitted {
-        edge.fitted(node)
+        BitEdge::fitted(edge.one, node)
     } else {
-        edge.left_out(node)
+        BitEdge::left_out(edge.one, node)
     }
 }
 
