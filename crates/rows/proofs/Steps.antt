@@ -1,11 +1,13 @@
 -- The best grade, part by part over the diagram.
-use Rattle.std.proofs.Common.{◌≡◌, ℕ, zero, suc, ◌+◌, ◌-◌, ◌*◌, ◌<◌, ◌≤◌, Bool, true, false, cond, List, [], ◌∷◌, map, length, get_or, drop, set, pos, ◌+ℤ◌, is_some, Some, None, Option, sym, refl, ap, ◌∙◌, subst, ap₂, ⊎_elim, add-one, arith, MatchOption}
+use Rattle.std.proofs.Common.{◌≡◌, ℕ, suc, ◌+◌, ◌-◌, ◌*◌, ◌<◌, ◌≤◌, Bool, true, false, cond, List, [], ◌∷◌, map, length, get_or, drop, set, pos, ◌+ℤ◌, Some, None, Option, sym, refl, ap, ◌∙◌, subst, ap₂, ⊎_elim, add-one, arith}
 use mathlib.Core.Path.{fun_ext}
 use lib.IntN.{+ℤ_assoc}
 use Rattle.std.specs.List.{slice_get, AllByRecursion}
 use Rattle.std.proofs.lemmas.Bool.{cases_eq}
-use Rattle.std.proofs.lemmas.List.{drop_all, length-drop, get_or_default, get_or-set_same, get_or-set_other}
-use Rattle.std.proofs.ByRecursion.{All-drop}
+use Rattle.std.specs.Option.{option_map}
+use Rattle.std.proofs.lemmas.Option.{slice_get_within, slice_get-map, slice_get_read, get_or_from_slice_get}
+use Rattle.std.proofs.lemmas.List.{drop_all, drop_more, get_or-map, length-map, length-drop, get_or_default, get_or-set_same, get_or-set_other}
+use Rattle.std.proofs.ByRecursion.{All-drop, All-get_or}
 use Rattle.grades.specs.Laws.{Kind, Laws}
 use Rattle.grades.specs.Rule.{best, better, put_on, left_out}
 use Rattle.diagrams.specs.Apply.{Bit}
@@ -19,33 +21,19 @@ use Rattle.rows.specs.Ones.{ones, Bits, BitsOf}
 use Rattle.rows.specs.Bests.{mapped, better_of, Put, Weighed, no_row, row_at, IsBest, RightRows, Tells, Lifts, Tops, NodeBest, RowBest}
 use Rattle.rows.specs.declared.Row.{Row}
 use Rattle.rows.specs.declared.Top.{Top}
-use Rattle.rows.proofs.Values.{nth_is, stands_place, skips_at, above_at, bits_to, bits_fit, bits_leave, bit_of}
+use Rattle.rows.proofs.Values.{under_down, stands_place, skips_at, above_at, bits_to, bits_fit, bits_leave, bit_of}
 
 -- what is left of a list from an element on
 pub drop_nth : {X : Type 0} (xs : List X) (j : ℕ) (x : X) → slice_get xs j ≡ Some x → drop j xs ≡ x ∷ drop (suc j) xs
-drop_nth [] j x e = let z : ◌≡◌ {A = ℕ} 0 1 = cc in absurd (omega arith)
-drop_nth (y ∷ xs) zero x e = let h : y ≡ x = cc in ap (λ z. z ∷ xs) h
-drop_nth (y ∷ xs) (suc j) x e = drop_nth xs j x e
+drop_nth xs j x e = drop_more xs j x (slice_get_within xs j x e) ∙ ap₂ (λ y n. y ∷ drop n xs) (get_or_from_slice_get xs j x x e) (add-one j)
 
 -- a weight's grade is read off the weights
 pub nth_map : {X Y : Type 0} (f : X → Y) (xs : List X) (i : ℕ) (x : X) (y : Y) → i < length xs → x ≡ get_or xs i x → y ≡ f x → slice_get (map f xs) i ≡ Some y
-nth_map f [] i x y h e g = absurd (omega arith)
-nth_map f (a ∷ xs) zero x y h e g = ap Some (ap f (sym e) ∙ sym g)
-nth_map f (a ∷ xs) (suc i) x y h e g = nth_map f xs i x y (omega arith) e g
+nth_map f xs i x y h e g = slice_get-map f xs i ∙ (ap (option_map f) (slice_get_read xs (length xs) i x refl h e) ∙ ap Some (sym g))
 
 -- what holds of each meaning holds of the one read
 pub all_map_at : {X Y : Type 0} (P : Y → Type 0) (f : X → Y) (xs : List X) (i : ℕ) (x : X) → i < length xs → x ≡ get_or xs i x → AllByRecursion P (map f xs) → P (f x)
-all_map_at P f [] i x h e all = absurd (omega arith)
-all_map_at P f (a ∷ xs) zero x h e all = subst (λ z. P (f z)) (sym e) all.0
-all_map_at P f (a ∷ xs) (suc i) x h e all = all_map_at P f xs i x (omega arith) e all.1
-
--- a weight in range has a grade
-pub is_there : {X : Type 0} (o : Option X) (P : Type 0) (Q : X → Type 0) → MatchOption o P Q → (P → ⊥) → is_some o ≡ true
-is_there None P Q h n = absurd (n h)
-is_there (Some x) P Q h n = refl
-
-pub is_that : {X : Type 0} (o : Option X) (x : X) (P : Type 0) (Q : X → Type 0) → MatchOption o P Q → o ≡ Some x → Q x
-is_that o x P Q h e = subst (λ z. MatchOption z P Q) e h
+all_map_at P f xs i x h e all = subst P (get_or-map f xs i x (f x) h ∙ ap f (sym e)) (All-get_or P (map f xs) i (f x) (omega (arith, length-map xs f)) all)
 
 module _ {V G : Type 0} {k : Kind V} (laws : Laws k) (means : G → V) where
   mapped_cond : (t : Bool) (a b : Option G) → mapped means (cond t a b) ≡ cond t (mapped means a) (mapped means b)
@@ -102,7 +90,7 @@ module _ {V G : Type 0} {k : Kind V} (laws : Laws k) (means : G → V) where
     small_from = subst (AllByRecursion (λ x. k.size x ≤ 1000000)) (drop_nth vs j v read) (All-drop (λ x. k.size x ≤ 1000000) j vs weighed.small)
 
     pub few_from : length (drop (suc j) vs) < 48
-    few_from = let h = nth_is vs j v v read in omega (arith, length-drop (suc j) vs, weighed.few, h.0)
+    few_from = omega (arith, length-drop (suc j) vs, weighed.few, slice_get_within vs j v read)
 
     -- a part that the diagram skips is still weighed
     lift : (ns : List Node) (b : Bool) (r : Child) (o with_it : Option G) → here ns j r ≡ None → IsBest k means vs ns (suc j) b r o → Put k means v o with_it → IsBest k means vs ns j b r (better_of k means o with_it)
@@ -161,11 +149,7 @@ module _ {V G : Type 0} {k : Kind V} (laws : Laws k) (means : G → V) where
     pub told : (b : Bool) (r : Child) (t : Top G) (i : ℕ) (o : Option G) → i ≤ length vs → Tops k means vs ns rows b r t → Lifts k means vs t.part i t.best o → Tells k means vs ns rows i b r o
     told b r t i o low tops lifts lim right u bits =
         lifts ns b r tops.skips
-        (tops.tells lim right (under_zero r u) (bits_to ns (length vs) (indicator b) t.part i r (tops.above i lim u low) tops.skips bits))
-      where
-        under_zero : (s : Child) → Under ns i lim s → Under ns 0 lim s
-        under_zero Terminal h = tt
-        under_zero (Place q) h = (h.0, h.1, omega arith, h.3)
+        (tops.tells lim right (under_down ns i 0 lim r (omega arith) u) (bits_to ns (length vs) (indicator b) t.part i r (tops.above i lim u low) tops.skips bits))
 
     module _ (weighed : Weighed k vs) (ord : Ordered (length vs) ns) where
       pub node_step : (n : Node) (b s : Bool) (at : Child) (v : V) (o f r res : Option G)

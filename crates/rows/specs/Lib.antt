@@ -1,2 +1,3 @@
 pub mod Ones
 pub mod Bests
+pub mod Readied

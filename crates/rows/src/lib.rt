@@ -7,9 +7,11 @@ ghost use Rattle.diagrams.specs.Apply.{Bit};
 ghost use Rattle.diagrams.specs.Needs.{indicator};
 ghost use Rattle.diagrams.specs.Nodes.{Under};
 ghost use Rattle.tables.specs.Chains.{made};
-ghost use Rattle.rows.specs.Bests.{mapped, better_of, Put, Weighed, Ready, row_at, RightRows, Tells, Lifts, Tops, NodeBest, RowBest};
+ghost use Rattle.rows.specs.Ones.{bit_edge};
+ghost use Rattle.rows.specs.Bests.{mapped, better_of, Put, Weighed, Ready, row_at, no_row, RightRows, Tells, Lifts, Tops, NodeBest, RowBest};
+ghost use Rattle.rows.specs.Readied.{ready_prop};
 
-use diagrams::{Child, Node};
+use diagrams::{Child, Edge, Node};
 use grades::Grade;
 use tables::NodeTable;
 
@@ -18,6 +20,14 @@ use tables::NodeTable;
 pub struct Row<G> {
     pub zero: Option<G>,
     pub one: Option<G>,
+}
+
+impl<G> Row<G> {
+    /// A row with no grade.
+    pub const EMPTY: Row<G> = Row {
+        zero: None,
+        one: None,
+    };
 }
 
 impl<G: Grade> Row<G> {
@@ -66,6 +76,25 @@ impl<'a, G: Grade> Rows<'a, G> {
     {
         &*self.rows
     }
+
+    /// Fills one row for each node, in the order of their places.
+    pub fn fill<'t>(&mut self, table: &'t NodeTable<'t>, weights: &'t [G::Weight])
+        requires ready { Ready G.kind (map G.weighs weights.now) (made table.now) }
+        requires enough { length (made table.now) ≤ length self.old.rows.now }
+        ensures right { RightRows G.kind G.means (map G.weighs weights.now) (made table.now) self.new.rows.now (length (made table.now)) }
+        ensures named { self.new.rows.ghost_name ≡ self.old.rows.ghost_name }
+        ensures kept { length self.new.rows.now ≡ length self.old.rows.now }
+    {
+        for k in 0..table.used() {
+            let reading = Reading {
+                table,
+                weights,
+                rows: self.shown(),
+            };
+            let row = reading.row(k);
+            self.set(k, row);
+        }
+    }
 }
 
 /// An edge whose constant is 1 or 0.
@@ -75,19 +104,45 @@ pub struct BitEdge {
     pub child: Child,
 }
 
+impl BitEdge {
+    /// The edge that goes on from a node whose part is fitted, where the edge to it has the constant 1 or 0.
+    pub fn fitted(one: bool, node: Node) -> BitEdge
+        ensures child { result.child ≡ node.left }
+        ensures constant { Bit (indicator one +ℤ node.value) → indicator result.one ≡ indicator one +ℤ node.value }
+    {
+        BitEdge {
+            one: if node.value == 0 { one } else { !one },
+            child: node.left,
+        }
+    }
+
+    /// The same where the part is left out.
+    pub fn left_out(one: bool, node: Node) -> BitEdge
+        ensures { result ≡ record { one = one; child = node.right } }
+    {
+        BitEdge {
+            one,
+            child: node.right,
+        }
+    }
+}
+
+impl From<Edge> for BitEdge {
+    ghost from_gives = { λ edge bit. bit ≡ bit_edge edge };
+
+    /// The edge with its constant as a bool.
+    fn from(edge: Edge) -> BitEdge {
+        BitEdge {
+            one: edge.constant == 1,
+            child: edge.child,
+        }
+    }
+}
+
 // The part from which a best grade is known, and that grade.
 struct Top<G> {
     part: usize,
     best: Option<G>,
-}
-
-/// The grade that part i weighs.
-pub fn grade_at<G: Grade>(weights: &[G::Weight], i: usize) -> G
-    requires weighed { Weighed G.kind (map G.weighs weights.now) }
-    requires low { i < length (map G.weighs weights.now) }
-    ensures { slice_get (map G.weighs weights.now) i ≡ Some (G.means result) }
-{
-    G::of_weight(&weights[i]).unwrap()
 }
 
 // The better of two, the first where they rank alike.
@@ -95,15 +150,8 @@ fn better<G: Grade>(a: Option<G>, b: Option<G>) -> Option<G>
     ensures { result ≡ better_of G.kind G.means a b }
 {
     match (a, b) {
-        (Some(x), Some(y)) => {
-            if x.ranks_no_later(&y) {
-                Some(x)
-            } else {
-                Some(y)
-            }
-        }
-        (Some(x), None) => Some(x),
-        (None, y) => y,
+        (Some(x), Some(y)) => Some(if x.ranks_no_later(&y) { x } else { y }),
+        (a, b) => a.or(b),
     }
 }
 
@@ -111,149 +159,102 @@ fn better<G: Grade>(a: Option<G>, b: Option<G>) -> Option<G>
 pub fn put_on<G: Grade>(weight: &G, best: Option<G>) -> Option<G>
     ensures { Put G.kind G.means (G.means weight.now) best result }
 {
-    match best {
-        Some(grade) => Some(weight.join(&grade)),
-        None => None,
-    }
-}
-
-/// The edge that goes on from a node whose part is fitted.
-pub fn fitted_edge(one: bool, node: Node) -> BitEdge
-    ensures child { result.child ≡ node.left }
-    ensures constant { Bit (indicator one +ℤ node.value) → indicator result.one ≡ indicator one +ℤ node.value }
-{
-    if node.value == 0 {
-        BitEdge {
-            one,
-            child: node.left,
-        }
-    } else {
-        BitEdge {
-            one: !one,
-            child: node.left,
-        }
-    }
+    best.map(|grade| weight.join(&grade))
 }
 
 // The best grade at the terminal: the empty one, or none.
 fn terminal_grade<G: Grade>(one: bool) -> Option<G>
     ensures { mapped G.means result ≡ (if one then Some G.kind.empty else None) }
 {
-    if one { Some(G::empty()) } else { None }
+    one.then_some(G::empty())
 }
 
-// The best grade at the node that the edge leads to, from its part up; at the terminal, with no part left.
-fn top_of<G: Grade>(
-    table: &NodeTable,
-    rows: &[Row<G>],
-    weights: &[G::Weight],
-    edge: BitEdge,
-) -> Top<G>
-    requires ready { Ready G.kind (map G.weighs weights.now) (made table.now) }
-    requires under { Under (made table.now) 0 (length rows.now) edge.child }
-    ensures { Tops G.kind G.means (map G.weighs weights.now) (made table.now) rows.now edge.one edge.child result }
-{
-    match edge.child {
-        Child::Terminal => Top {
-            part: weights.len(),
-            best: terminal_grade(edge.one),
-        },
-        Child::Place(k) => {
-            let k = k as usize;
-            Top {
-                part: table.node(k).part as usize,
-                best: rows[k].grade(edge.one),
+/// A node table with the weights of its parts and the rows that are filled, to read best grades from.
+#[derive(Drop)]
+pub struct Reading<'t, 'r, G: Grade> {
+    pub table: &'t NodeTable<'t>,
+    pub weights: &'t [G::Weight],
+    pub rows: &'r [Row<G>],
+    ghost ready: { Ready G.kind (map G.weighs weights.now) (made table.now) } by { ready_prop G.kind (map G.weighs weights.now) (made table.now) },
+}
+
+impl<'t, 'r, G: Grade> Reading<'t, 'r, G> {
+    /// The grade that part i weighs.
+    pub fn grade_at(&self, i: usize) -> G
+        requires { i < length (map G.weighs self.now.weights.now) }
+        ensures { slice_get (map G.weighs self.now.weights.now) i ≡ Some (G.means result) }
+    {
+        G::of_weight(&self.weights[i]).unwrap()
+    }
+
+    // The best grade at the node that the edge leads to, from its part up; at the terminal, with no part left.
+    fn top(&self, edge: BitEdge) -> Top<G>
+        requires { Under (made self.now.table.now) 0 (length self.now.rows.now) edge.child }
+        ensures { Tops G.kind G.means (map G.weighs self.now.weights.now) (made self.now.table.now) self.now.rows.now edge.one edge.child result }
+    {
+        match edge.child {
+            Child::Terminal => Top {
+                part: self.weights.len(),
+                best: terminal_grade(edge.one),
+            },
+            Child::Place(k) => {
+                let k = k as usize;
+                Top {
+                    part: self.table.node(k).part as usize,
+                    best: self.rows[k].grade(edge.one),
+                }
             }
         }
     }
-}
 
-// What is best from one part up, from an earlier part up, where the diagram skips the parts between: each is weighed.
-fn lifted<G: Grade>(weights: &[G::Weight], best: Option<G>, from: usize, to: usize) -> Option<G>
-    requires weighed { Weighed G.kind (map G.weighs weights.now) }
-    requires falls { to ≤ from }
-    requires low { from ≤ length (map G.weighs weights.now) }
-    ensures { Lifts G.kind G.means (map G.weighs weights.now) from to best result }
-{
-    let mut o = best;
-    for j in (to..from).rev() {
-        let weight: G = grade_at(weights, j);
-        let with = put_on(&weight, o);
-        o = better(o, with);
+    // What is best from one part up, from an earlier part up, where the diagram skips the parts between: each is weighed.
+    fn lifted(&self, best: Option<G>, from: usize, to: usize) -> Option<G>
+        requires falls { to ≤ from }
+        requires low { from ≤ length (map G.weighs self.now.weights.now) }
+        ensures { Lifts G.kind G.means (map G.weighs self.now.weights.now) from to best result }
+    {
+        let mut best = best;
+        // Over the parts' numbers and not over the weights, since `grade_at` reads a part's grade by its number.
+        for j in (to..from).rev() {
+            let weight = self.grade_at(j);
+            best = better(best, put_on(&weight, best));
+        }
+        best
     }
-    o
-}
 
-/// The best grade of the parts from i up, at the edge.
-pub fn best_of<G: Grade>(
-    table: &NodeTable,
-    rows: &[Row<G>],
-    weights: &[G::Weight],
-    edge: BitEdge,
-    i: usize,
-) -> Option<G>
-    requires ready { Ready G.kind (map G.weighs weights.now) (made table.now) }
-    requires low { i ≤ length (map G.weighs weights.now) }
-    requires under { Under (made table.now) i (length rows.now) edge.child }
-    ensures { Tells G.kind G.means (map G.weighs weights.now) (made table.now) rows.now i edge.one edge.child result }
-{
-    let Top { part, best } = top_of(table, rows, weights, edge);
-    lifted(weights, best, part, i)
-}
+    /// The best grade of the parts from i up, at the edge.
+    pub fn best(&self, edge: BitEdge, i: usize) -> Option<G>
+        requires low { i ≤ length (map G.weighs self.now.weights.now) }
+        requires under { Under (made self.now.table.now) i (length self.now.rows.now) edge.child }
+        ensures { Tells G.kind G.means (map G.weighs self.now.weights.now) (made self.now.table.now) self.now.rows.now i edge.one edge.child result }
+    {
+        let Top { part, best } = self.top(edge);
+        self.lifted(best, part, i)
+    }
 
-// The best grade at a node, where the edge to it has the constant 1 or 0.
-fn node_best<G: Grade>(
-    table: &NodeTable,
-    rows: &[Row<G>],
-    weights: &[G::Weight],
-    node: Node,
-    one: bool,
-) -> Option<G>
-    requires ready { Ready G.kind (map G.weighs weights.now) (made table.now) }
-    requires low { node.part < length (map G.weighs weights.now) }
-    requires left { Under (made table.now) (suc node.part) (length rows.now) node.left }
-    requires right { Under (made table.now) (suc node.part) (length rows.now) node.right }
-    ensures { NodeBest G.kind G.means (map G.weighs weights.now) (made table.now) rows.now node one result }
-{
-    let i = node.part as usize;
-    let out = best_of(
-        table,
-        rows,
-        weights,
-        BitEdge {
-            one,
-            child: node.right,
-        },
-        i + 1,
-    );
-    let fitted = best_of(table, rows, weights, fitted_edge(one, node), i + 1);
-    let weight: G = grade_at(weights, i);
-    better(out, put_on(&weight, fitted))
-}
+    // The best grade at a node, where the edge to it has the constant 1 or 0.
+    fn node_best(&self, node: Node, one: bool) -> Option<G>
+        requires low { node.part < length (map G.weighs self.now.weights.now) }
+        requires left { Under (made self.now.table.now) (suc node.part) (length self.now.rows.now) node.left }
+        requires right { Under (made self.now.table.now) (suc node.part) (length self.now.rows.now) node.right }
+        ensures { NodeBest G.kind G.means (map G.weighs self.now.weights.now) (made self.now.table.now) self.now.rows.now node one result }
+    {
+        let i = node.part as usize;
+        let out = self.best(BitEdge::left_out(one, node), i + 1);
+        let fitted = self.best(BitEdge::fitted(one, node), i + 1);
+        let weight = self.grade_at(i);
+        better(out, put_on(&weight, fitted))
+    }
 
-// The row of the node at the place k.
-fn row_of<G: Grade>(table: &NodeTable, rows: &[Row<G>], weights: &[G::Weight], k: usize) -> Row<G>
-    requires ready { Ready G.kind (map G.weighs weights.now) (made table.now) }
-    requires low { k < length (made table.now) }
-    requires enough { k ≤ length rows.now }
-    ensures { RowBest G.kind G.means (map G.weighs weights.now) (made table.now) rows.now k result }
-{
-    let node = table.node(k);
-    let zero = node_best(table, rows, weights, node, false);
-    let one = node_best(table, rows, weights, node, true);
-    Row { zero, one }
-}
-
-/// Fills one row for each node, in the order of their places.
-pub fn fill<G: Grade>(table: &NodeTable, weights: &[G::Weight], rows: &mut Rows<G>)
-    requires ready { Ready G.kind (map G.weighs weights.now) (made table.now) }
-    requires enough { length (made table.now) ≤ length rows.old.rows.now }
-    ensures right { RightRows G.kind G.means (map G.weighs weights.now) (made table.now) rows.new.rows.now (length (made table.now)) }
-    ensures named { rows.new.rows.ghost_name ≡ rows.old.rows.ghost_name }
-    ensures kept { length rows.new.rows.now ≡ length rows.old.rows.now }
-{
-    for k in 0..table.used() {
-        let row = row_of(table, rows.shown(), weights, k);
-        rows.set(k, row);
+    // The row of the node at the place k.
+    fn row(&self, k: usize) -> Row<G>
+        requires low { k < length (made self.now.table.now) }
+        requires enough { k ≤ length self.now.rows.now }
+        ensures { RowBest G.kind G.means (map G.weighs self.now.weights.now) (made self.now.table.now) self.now.rows.now k result }
+    {
+        let node = self.table.node(k);
+        let zero = self.node_best(node, false);
+        let one = self.node_best(node, true);
+        Row { zero, one }
     }
 }

@@ -37,21 +37,22 @@ walk_more xs len n v k c w at differs =
       ],
     )
 
+-- a bucket's head is set
 module _ (xs : List Place) (h v : ℕ) (l : h < length xs) where
-  pub head_length : length (with_head xs h v) ≡ length xs
-  head_length = length-set xs h _
+  abbrev headed : Place
+  headed = record { node = node_at xs h; next = next_at xs h; head = v }
 
   pub head_node : (k : ℕ) → node_at (with_head xs h v) k ≡ node_at xs k
-  head_node k = kept (λ p. p.node) xs h (record { node = (get_or xs h none).node; next = (get_or xs h none).next; head = v }) l refl k
+  head_node k = kept (λ p. p.node) xs h headed l refl k
 
   pub head_next : (k : ℕ) → next_at (with_head xs h v) k ≡ next_at xs k
-  head_next k = kept (λ p. p.next) xs h (record { node = (get_or xs h none).node; next = (get_or xs h none).next; head = v }) l refl k
+  head_next k = kept (λ p. p.next) xs h headed l refl k
 
   pub head_new : head_at (with_head xs h v) h ≡ v
-  head_new = ap (λ p. p.head) (get_or-set_same xs h (record { node = (get_or xs h none).node; next = (get_or xs h none).next; head = v }) none l)
+  head_new = ap (λ p. p.head) (get_or-set_same xs h headed none l)
 
   pub head_old : (g : ℕ) → (g ≡ h → ⊥) → head_at (with_head xs h v) g ≡ head_at xs g
-  head_old g ne = ap (λ p. p.head) (get_or-set_other xs h g (record { node = (get_or xs h none).node; next = (get_or xs h none).next; head = v }) none ne)
+  head_old g ne = ap (λ p. p.head) (get_or-set_other xs h g headed none ne)
 
 -- a node more
 module _ (xs : List Place) (len h : ℕ) (n : Node) (left : len < min (length xs) 60000) (lh : h < length xs) (eh : h ≡ hashed (length xs) n) (fits : PlacesFit xs len) where
@@ -136,14 +137,3 @@ made_push xs len n x h v l =
 pub made_less : (xs ys : List Place) (j k : ℕ) → j ≤ k → nodes_of ys ≡ nodes_of xs → nodes_of (take j ys) ≡ take j (nodes_of (take k xs))
 made_less xs ys j k l same =
     taken xs ys j same ∙ (ap nodes_of (sym (take-take j k xs l)) ∙ sym (take-map (λ p. p.node) j (take k xs)))
-
--- no nodes yet
-pub none_chained : (xs : List Place) → ((k : ℕ) → k < length xs → head_at xs k ≡ 0) → Chained xs 0
-none_chained xs z = record {
-  low = λ g l. let e = z g l in omega arith;
-  hit = λ g l p. let e = z g l in absurd (omega arith);
-  last = λ k l. absurd (omega arith);
-  nlow = λ k l. absurd (omega arith);
-  nhit = λ k l. absurd (omega arith);
-  nlast = λ j k l. absurd (omega arith);
-}
