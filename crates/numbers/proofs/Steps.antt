@@ -1,11 +1,7 @@
-use Rattle.std.proofs.Common.{◌≡◌, ℕ, zero, suc, ◌+◌, ◌-◌, ◌*◌, ◌<◌, ◌≤◌, Bool, true, false, List, [], ◌∷◌, length, get_or, drop, sym, refl, ap, ◌∙◌, mul_assoc, one-mul, zero-add, mul-add, arith, le-ltb, lt-ltb}
+use Rattle.std.proofs.Common.{◌≡◌, ℕ, zero, suc, ◌+◌, ◌-◌, ◌*◌, ◌<◌, ◌≤◌, Bool, true, false, List, [], ◌∷◌, length, get_or, drop, sym, refl, ap, ◌∙◌, mul_assoc, mul-add, arith, le-ltb, lt-ltb}
 use Rattle.std.proofs.lemmas.Bool.Decides.{nat_tests}
 use Rattle.std.proofs.lemmas.List.{at_drop_more, drop_all}
-use Rattle.numbers.specs.Numbers.{Reading, read, unread, carry, last_byte, rest_of_number}
-
-pub carry_none : (r : Reading ℕ) → carry 1 0 0 r ≡ r
-carry_none (read v n) = ap (λ x. read x (0 + n)) (zero-add (1 * v) ∙ one-mul v) ∙ ap (read v) (zero-add n)
-carry_none (unread e) = refl
+use Rattle.numbers.specs.Numbers.{Reading, read, unread, carry, last_byte, rest_of_number, decode, from_place, read_number}
 
 pub carry_carry : (w acc u c : ℕ) (r : Reading ℕ) → carry w acc u (carry 128 c 1 r) ≡ carry (w * 128) (acc + w * c) (u + 1) r
 carry_carry w acc u c (read v n) =
@@ -82,7 +78,11 @@ pub none_at : (w acc u left : ℕ) (f : Bool) (xs : List ℕ) (i : ℕ) → leng
 none_at w acc u left f xs i h =
     ap (λ s. carry w acc u (rest_of_number left f s)) (drop_all i xs h) ∙ ap (carry w acc u) (step_none left f)
 
-pub on_next : (w acc u left : ℕ) (f : Bool) (xs : List ℕ) (i : ℕ) → i < length xs → 0 < left → 128 ≤ get_or xs i 0
-    → (d v : ℕ) (g : Bool) → d ≡ get_or xs i 0 - 128 → u + 1 ≡ v → g ≡ false
-    → carry w acc u (rest_of_number left f (drop i xs)) ≡ carry (w * 128) (acc + w * d) v (rest_of_number (left - 1) g (drop (i + 1) xs))
-on_next w acc u left f xs i h k z d v g p q r = let on = on_at w acc u left f xs i h k z in cc
+pub on_next : (w acc i left m d : ℕ) (f g : Bool) (xs : List ℕ) → i < length xs → 0 < left → 128 ≤ get_or xs i 0
+    → d ≡ get_or xs i 0 - 128 → m ≡ left - 1 → g ≡ false
+    → carry w acc i (rest_of_number left f (drop i xs)) ≡ carry (w * 128) (acc + w * d) (i + 1) (rest_of_number m g (drop (i + 1) xs))
+on_next w acc i left m d f g xs h k z p q r = let on = on_at w acc i left f xs i h k z in cc
+
+-- past the end of the bytes a number is cut short
+pub past_end : (xs : List ℕ) (at : ℕ) → length xs ≤ at → read_number xs at ≡ unread 1
+past_end xs at h = ap (λ s. from_place at (decode s)) (drop_all at xs h) ∙ ap (from_place at) (step_none 4 true)

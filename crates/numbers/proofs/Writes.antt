@@ -1,7 +1,5 @@
-use Rattle.std.proofs.Common.{◌≡◌, ℕ, zero, suc, ◌+◌, ◌-◌, ◌*◌, ◌/◌, ◌%◌, ◌^◌, ◌<◌, ◌≤◌, Bool, true, false, cond, ltb, List, [], ◌∷◌, ◌++◌, length, take, drop, set, sym, refl, ap, ◌∙◌, append_assoc, arith, ltb-false, le-ltb, lt-ltb}
+use Rattle.std.proofs.Common.{◌≡◌, ℕ, zero, suc, ◌+◌, ◌-◌, ◌*◌, ◌/◌, ◌%◌, ◌^◌, ◌<◌, ◌≤◌, Bool, true, false, cond, ltb, List, [], ◌∷◌, ◌++◌, length, sym, refl, ap, ◌∙◌, append_assoc, arith, ltb-false, le-ltb, lt-ltb}
 use native.Mathlib.Nat.{pow-succ'}
-use lib.Seq.{sets, sets-eq}
-use Rattle.std.proofs.lemmas.List.{drop_at, length-take-le}
 use Rattle.numbers.specs.Numbers.{read, rest_of_number, decode, groups, encode}
 use Rattle.numbers.proofs.Steps.{ends}
 
@@ -37,21 +35,6 @@ read_back (suc l) f v rest h z =
 pub decode_encode : (v : ℕ) (rest : List ℕ) → v < 2 ^ 32 → decode (encode v ++ rest) ≡ read v (length (encode v))
 decode_encode v rest h = read_back 4 true v rest h (λ _. refl)
 
-pub decode_sets : (xs : List ℕ) (at v : ℕ) → v < 2 ^ 32 → at + length (encode v) ≤ length xs
-    → decode (drop at (sets xs at (encode v))) ≡ read v (length (encode v))
-decode_sets xs at v h k =
-    let e = sets-eq (encode v) xs at k in
-    let lt : at ≤ length xs = omega arith in
-    ap (λ s. decode (drop at s)) (e ∙ append_assoc (take at xs) (encode v) (drop (at + length (encode v)) xs))
-    ∙ ap decode (drop_at (take at xs) (encode v ++ drop (at + length (encode v)) xs) at (length-take-le at xs lt))
-    ∙ decode_encode v (drop (at + length (encode v)) xs) h
-
-pub length_more : (left l v : ℕ) → l ≡ left - 1 → 0 < left → 128 ≤ v → length (groups left v) ≡ 1 + length (groups l (v / 128))
-length_more left l v e h k = ap length (groups_more left v h k) ∙ rw e (omega arith)
-
-pub length_last : (left v : ℕ) → v < 128 → length (groups left v) ≡ 1
-length_last left v h = ap length (groups_last left v h)
-
 length_cases : (t : Bool) (l v : ℕ) → 0 < length (cond t (v ∷ []) ((v % 128 + 128) ∷ groups l (v / 128)))
 length_cases true l v = omega arith
 length_cases false l v = omega arith
@@ -61,13 +44,13 @@ unfolding groups
 length_some zero v = omega arith
 length_some (suc l) v = length_cases (ltb v 128) l v
 
-pub sets_more : (xs : List ℕ) (i left l v b : ℕ) → b ≡ v % 128 + 128 → l ≡ left - 1 → 0 < left → 128 ≤ v
-    → sets xs i (groups left v) ≡ sets (set xs i b) (i + 1) (groups l (v / 128))
-sets_more xs i left l v b p e h k =
-    ap (sets xs i) (groups_more left v h k)
-    ∙ ap (λ j. sets (set xs i (v % 128 + 128)) j (groups (left - 1) (v / 128))) (omega arith)
-    ∙ ap (λ n. sets (set xs i (v % 128 + 128)) (i + 1) (groups n (v / 128))) (sym e)
-    ∙ ap (λ n. sets (set xs i n) (i + 1) (groups l (v / 128))) (sym p)
+-- the bytes ys are those before and one group more
+pub more_spelled : (xs ys : List ℕ) (left l v b : ℕ) (all : List ℕ) → ys ≡ xs ++ (b ∷ []) → b ≡ v % 128 + 128 → l ≡ left - 1 → 0 < left → 128 ≤ v
+    → xs ++ groups left v ≡ all → ys ++ groups l (v / 128) ≡ all
+more_spelled xs ys left l v b all s p e h k i =
+    rw s (append_assoc xs (b ∷ []) (groups l (v / 128))
+    ∙ ap (λ g. xs ++ g) (rw (p, e) (sym (groups_more left v h k))) ∙ i)
 
-pub sets_last : (xs : List ℕ) (i left v : ℕ) → v < 128 → sets xs i (groups left v) ≡ set xs i v
-sets_last xs i left v h = ap (sets xs i) (groups_last left v h)
+-- the bytes ys are those before and the last group
+pub last_spelled : (xs ys : List ℕ) (left v : ℕ) (all : List ℕ) → ys ≡ xs ++ (v ∷ []) → v < 128 → xs ++ groups left v ≡ all → ys ≡ all
+last_spelled xs ys left v all s h i = s ∙ ap (λ g. xs ++ g) (sym (groups_last left v h)) ∙ i

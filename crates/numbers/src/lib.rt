@@ -6,14 +6,16 @@ ghost use Rattle.std.proofs.lemmas.List.Edits.{sets};
 ghost use Rattle.numbers.specs.Numbers.{fault_number, reading_of, read_number, read_signed, signed_of, unsigned_of, encode, encode_signed, Written};
 ghost use Rattle.numbers.specs.Laws.{ReadsBack, SignedReadsBack, OneSpelling, SignedOneSpelling};
 
+use arrayvec::ArrayVec;
+
 // The fifth byte of a number is below this.
 const FIFTH_END: u8 = 16;
 
 /// Why no number can be read at a place.
-#[derive(Clone, Copy)]
+#[derive(Clone, Copy, PartialEq, Eq, Debug, Drop)]
 pub enum NumberFault {
-    CutShort,
-    NotShortest,
+    CutShort = 1,
+    NotShortest = 2,
 }
 
 impl NumberFault {
@@ -21,10 +23,7 @@ impl NumberFault {
     pub fn number(self) -> u8
         ensures { result ≡ fault_number self }
     {
-        match self {
-            NumberFault::CutShort => 1,
-            NumberFault::NotShortest => 2,
-        }
+        self as u8
     }
 }
 
@@ -33,25 +32,23 @@ pub fn read_number(bytes: &[u8], at: usize) -> Result<(u32, usize), NumberFault>
     ensures is { reading_of result ≡ read_number bytes.now at }
     ensures within { IfOk result (λ p. (at < p.1) × (p.1 ≤ length bytes.now)) }
 {
+    let Some(rest) = bytes.get(at..) else {
+        return Err(NumberFault::CutShort);
+    };
     let mut value: u64 = 0;
     let mut weight: u64 = 1;
-    let mut next = at;
-    let mut left: u8 = 4;
-    while next < bytes.len() {
-        let b = bytes[next];
-        if left == 0 && b >= FIFTH_END {
+    for (i, &b) in rest.iter().enumerate() {
+        if i == 4 && b >= FIFTH_END {
             return Err(NumberFault::NotShortest);
         }
         if b < 128 {
-            if b == 0 && next > at {
+            if b == 0 && i > 0 {
                 return Err(NumberFault::NotShortest);
             }
-            return Ok(((value + weight * u64::from(b)) as u32, next + 1));
+            return Ok(((value + weight * u64::from(b)) as u32, at + i + 1));
         }
         value += weight * u64::from(b - 128);
         weight *= 128;
-        left -= 1;
-        next += 1;
     }
     Err(NumberFault::CutShort)
 }
@@ -84,18 +81,26 @@ pub fn read_signed(bytes: &[u8], at: usize) -> Result<(i32, usize), NumberFault>
     Ok((signed_of(n), next))
 }
 
+// The bytes of a number, which are five at most.
+fn spelling(value: u32) -> ArrayVec<u8, 5>
+    ensures { result.items ≡ encode value }
+{
+    let mut bytes = ArrayVec::new();
+    let mut rest = value;
+    while rest >= 128 {
+        bytes.push((rest % 128 + 128) as u8);
+        rest /= 128;
+    }
+    bytes.push(rest as u8);
+    bytes
+}
+
 /// How many bytes a number takes.
 pub fn width(value: u32) -> usize
     ensures is { result ≡ length (encode value) }
     ensures few { result ≤ 5 }
 {
-    let mut rest = value;
-    let mut n = 1;
-    while rest >= 128 {
-        rest /= 128;
-        n += 1;
-    }
-    n
+    spelling(value).len()
 }
 
 /// Writes a number where there is room, and says where it ends.
@@ -104,15 +109,7 @@ pub fn put_number(out: &mut [u8], at: usize, value: u32) -> usize
     ensures end { result ≡ at + length (encode value) }
     ensures out { out.new ≡ sets out.old at (encode value) }
 {
-    let mut rest = value;
-    let mut next = at;
-    while rest >= 128 {
-        out[next] = (rest % 128 + 128) as u8;
-        rest /= 128;
-        next += 1;
-    }
-    out[next] = rest as u8;
-    next + 1
+    put_bytes(out, at, &spelling(value))
 }
 
 /// Writes bytes where there is room, and says where they end.
@@ -145,17 +142,13 @@ pub fn write_signed(out: &mut [u8], at: usize, value: i32) -> Option<usize>
 }
 
 /// What is written is read back: a theorem, which this function's contract states.
-pub fn reads_back() -> u8
+pub fn reads_back()
     ensures unsigned { ReadsBack }
     ensures signed { SignedReadsBack }
-{
-    0
-}
+{}
 
 /// No number has a second spelling: a theorem, which this function's contract states.
-pub fn one_spelling() -> u8
+pub fn one_spelling()
     ensures unsigned { OneSpelling }
     ensures signed { SignedOneSpelling }
-{
-    0
-}
+{}
