@@ -8,7 +8,7 @@ ghost use Rattle.records.specs.Meanings.{said, Shows};
 
 use crate::payloads::payload;
 use crate::{Kind, Record, Stage};
-use fields::{Fault, Reason, number, record_fault};
+use fields::{Fault, Layer, Reason, number};
 use limits::Sense;
 
 // Whether a record of a kind may come now.
@@ -44,7 +44,7 @@ fn kind_at(sheet: &[u8], stage: Stage, at: usize) -> Result<(Kind, usize), Fault
 {
     let (code, next) = number(sheet, at)?;
     if !may_come(stage, code) {
-        return Err(record_fault(Reason::BadKind, at));
+        return Err(Layer::Records.fault(Reason::BadKind, at));
     }
     Ok((kind_of(code), next))
 }
@@ -58,7 +58,7 @@ fn length_at(sheet: &[u8], place: usize, at: usize) -> Result<(usize, usize), Fa
     let (size, next) = number(sheet, at)?;
     let size = size as usize;
     if sheet.len() - next < size {
-        return Err(record_fault(Reason::WrongLength, place));
+        return Err(Layer::Records.fault(Reason::WrongLength, place));
     }
     Ok((size, next))
 }

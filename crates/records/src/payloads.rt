@@ -9,7 +9,7 @@ ghost use Rattle.records.specs.Meanings.{said, Shows};
 
 use crate::{Goal, Kind, Record};
 use fields::naming::name;
-use fields::{Fault, Reason, amount, mass, number, record_fault, signed, term};
+use fields::{Fault, Layer, Reason, amount, mass, number, signed, term};
 use limits::Sense;
 
 // How many parts a sheet may have.
@@ -25,7 +25,7 @@ fn named_part<'a>(name: &'a [u8], body: &[u8], place: usize, at: usize) -> Resul
     let (wait, at) = amount(body, place, at)?;
     let (price, at) = amount(body, place, at)?;
     if at < body.len() {
-        return Err(record_fault(Reason::WrongLength, place));
+        return Err(Layer::Records.fault(Reason::WrongLength, place));
     }
     Ok(Record::Part {
         name,
@@ -48,7 +48,7 @@ fn part<'a>(
         (λ f. read_part (contents names.now) body.now place at ≡ fault_of f) }
 {
     if names.len() >= MOST_PARTS {
-        return Err(record_fault(Reason::PartOutOfRange, place));
+        return Err(Layer::Records.fault(Reason::PartOutOfRange, place));
     }
     let (name, at) = name(body, names, place, at)?;
     named_part(name, body, place, at)
@@ -74,10 +74,10 @@ fn goal<'a>(body: &'a [u8], place: usize, at: usize) -> Result<Record<'a>, Fault
 {
     let (code, at) = number(body, at)?;
     let Some(goal) = goal_of(code) else {
-        return Err(record_fault(Reason::BadGoal, place));
+        return Err(Layer::Records.fault(Reason::BadGoal, place));
     };
     if at < body.len() {
-        return Err(record_fault(Reason::WrongLength, place));
+        return Err(Layer::Records.fault(Reason::WrongLength, place));
     }
     Ok(Record::Goal(goal))
 }
@@ -122,7 +122,7 @@ fn end<'a>(sheet: &'a [u8], place: usize, at: usize) -> Result<Record<'a>, Fault
         (λ f. ended sheet.now place end_says at ≡ fault_of f) }
 {
     if at < sheet.len() {
-        return Err(record_fault(Reason::WrongLength, place));
+        return Err(Layer::Records.fault(Reason::WrongLength, place));
     }
     Ok(Record::End)
 }
