@@ -1,5 +1,5 @@
 -- What the types of the code mean.
-use Rattle.std.specs.Prelude.{◌≡◌, ℕ, ◌-◌, ◌<◌, ◌≤◌, cond, List, [], length, take, Some, None, Option, nat_lt}
+use Rattle.std.specs.Prelude.{◌≡◌, ℕ, ◌-◌, ◌<◌, ◌≤◌, cond, List, [], length, Some, None, Option, nat_lt}
 use Rattle.limits.specs.declared.drafts.Term.{Term}
 use Rattle.records.specs.declared.Reader.{Reader}
 use Rattle.records.specs.declared.Record.{Record}
@@ -18,14 +18,14 @@ terms_in bytes = terms_of (read_terms (length bytes) bytes 0 0 0)
 
 -- what a record says
 abbrev pub said : Record → Saying
-said (Part name mass wait price) = part_says name.now mass wait price
+said (Part p) = part_says p.name.now p.mass p.wait p.price
 said (Limit sense bound terms) = limit_says sense bound (terms_in terms.now)
 said (Goal goal) = goal_says goal
 said End = end_says
 
 -- the names of the parts that a reader has read
 abbrev pub held_names : Reader → List (List ℕ)
-held_names r = contents (take r.count r.names)
+held_names r = contents r.names.items
 
 -- `ts` are the terms that are left to read in a list of terms, from a place of it on
 abbrev pub LeftIn : List ℕ → ℕ → ℕ → List Term → Type 0
@@ -33,7 +33,7 @@ LeftIn bytes least at ts = (n : ℕ) × (length bytes - at ≤ n) × (read_terms
 
 -- what else is known of a record that is read after n parts: a part is not the forty-ninth, and a limit's terms read to their end
 abbrev pub Shows : Record → ℕ → Type 0
-Shows (Part name mass wait price) n = n < 48
+Shows (Part p) n = n < 48
 Shows (Limit sense bound terms) n = LeftIn terms.now 0 0 (terms_in terms.now)
 Shows (Goal goal) n = Unit {0}
 Shows End n = Unit {0}

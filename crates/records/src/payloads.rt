@@ -1,13 +1,13 @@
 //! The payloads of records, by their kinds.
 ghost use Rattle.std.specs.Prelude.{◌≡◌, ℕ, ◌-◌, ◌<◌, ◌≤◌, cond, List, length, MatchOption, MatchResult};
 ghost use Rattle.limits.specs.declared.drafts.Term.{Term as LimitTerm};
-ghost use Rattle.records.specs.Codes.{goal_of, kind_code};
+ghost use Rattle.records.specs.Codes.{kind_code};
 ghost use Rattle.fields.specs.Fields.{found};
 ghost use Rattle.fields.specs.Meanings.{fault_of, contents};
 ghost use Rattle.records.specs.Sheets.{end_says, ended, read_terms, read_named_part, read_part, read_limit, read_goal, read_payload};
 ghost use Rattle.records.specs.Meanings.{said, Shows};
 
-use crate::{Goal, Kind, Record};
+use crate::{Goal, Kind, Part, Record};
 use fields::naming::name;
 use fields::{Fault, Layer, Reason, amount, mass, number, signed, term};
 use limits::Sense;
@@ -27,12 +27,12 @@ fn named_part<'a>(name: &'a [u8], body: &[u8], place: usize, at: usize) -> Resul
     if at < body.len() {
         return Err(Layer::Records.fault(Reason::WrongLength, place));
     }
-    Ok(Record::Part {
+    Ok(Record::Part(Part {
         name,
         mass,
         wait,
         price,
-    })
+    }))
 }
 
 // The part whose record is at `place`.
@@ -54,18 +54,6 @@ fn part<'a>(
     named_part(name, body, place, at)
 }
 
-// The goal of a code.
-fn goal_of(code: u32) -> Option<Goal>
-    ensures { MatchOption result (2 < code) (λ g. (code ≤ 2) × (g ≡ goal_of code)) }
-{
-    match code {
-        0 => Some(Goal::Mass),
-        1 => Some(Goal::Wait),
-        2 => Some(Goal::MassPrice),
-        _ => None,
-    }
-}
-
 // The goal whose record is at `place`.
 fn goal<'a>(body: &'a [u8], place: usize, at: usize) -> Result<Record<'a>, Fault>
     ensures { MatchResult result
@@ -73,7 +61,7 @@ fn goal<'a>(body: &'a [u8], place: usize, at: usize) -> Result<Record<'a>, Fault
         (λ f. read_goal body.now place at ≡ fault_of f) }
 {
     let (code, at) = number(body, at)?;
-    let Some(goal) = goal_of(code) else {
+    let Ok(goal) = Goal::try_from(code) else {
         return Err(Layer::Records.fault(Reason::BadGoal, place));
     };
     if at < body.len() {
