@@ -4,6 +4,9 @@ ghost use Rattle.fields.specs.Fields.{plain, in_range};
 
 use limits::drafts::MOST_COEFFICIENT;
 
+/// A wait or a price is at most so much.
+pub const MOST_AMOUNT: u32 = 1_000_000;
+
 /// Whether each byte of a name is one of those from 33 to 126.
 pub fn is_plain(name: &[u8]) -> bool
     ensures { result ≡ plain name.now }

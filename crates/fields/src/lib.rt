@@ -9,7 +9,7 @@ ghost use Rattle.fields.specs.Faults.{reason_number, layer_number};
 ghost use Rattle.fields.specs.Fields.{number_at, signed_at, read_mass, read_amount, read_term};
 ghost use Rattle.fields.specs.Meanings.{Reads};
 
-use judging::in_range;
+use judging::{MOST_AMOUNT, in_range};
 use limits::drafts::Term;
 use numbers::{NumberFault, read_number, read_signed};
 
@@ -116,7 +116,7 @@ pub fn amount(body: &[u8], place: usize, at: usize) -> Result<(u32, usize), Faul
     ensures { Reads (read_amount body.now place at) at (length body.now) result }
 {
     let (v, next) = number(body, at)?;
-    if v > 1_000_000 {
+    if v > MOST_AMOUNT {
         return Err(Layer::Records.fault(Reason::OutOfRange, place));
     }
     Ok((v, next))

@@ -1,5 +1,7 @@
 -- bytes put after one another
-use Rattle.std.proofs.Common.{◌≡◌, ℕ, suc, ◌+◌, ◌≤◌, List, [], ◌∷◌, ◌++◌, length, take, drop, set, sym, refl, ap, ◌∙◌, arith}
+use Rattle.numbers.specs.declared.cursors.Cursor.{Cursor}
+use Rattle.numbers.specs.Cursors.{Puts}
+use Rattle.std.proofs.Common.{length-append, ◌≡◌, ℕ, suc, ◌+◌, ◌≤◌, List, [], ◌∷◌, ◌++◌, length, take, drop, set, sym, refl, ap, ◌∙◌, arith}
 use lib.Seq.{sets, sets-eq, take-length}
 use borrow.Rule.Slice.PartMut.{put_mid}
 use Rattle.std.proofs.lemmas.Slice.{put_mid-paste}
@@ -11,15 +13,14 @@ sets_append (b ∷ s) t xs a = sets_append s t (set xs a b) (suc a) ∙ ap (λ i
 pub chain : (o o₁ o₂ : List ℕ) (a a₁ : ℕ) (s t : List ℕ) → o₁ ≡ sets o a s → a₁ ≡ a + length s → o₂ ≡ sets o₁ a₁ t → o₂ ≡ sets o a (s ++ t)
 chain o o₁ o₂ a a₁ s t e f g = let h = sets_append s t o a in cc
 
-pub chain_3 : (o o₁ o₂ o₃ : List ℕ) (a a₁ a₂ : ℕ) (s₁ s₂ s₃ : List ℕ) → o₁ ≡ sets o a s₁ → a₁ ≡ a + length s₁ → o₂ ≡ sets o₁ a₁ s₂ → a₂ ≡ a₁ + length s₂
-    → o₃ ≡ sets o₂ a₂ s₃ → o₃ ≡ sets o a (s₁ ++ (s₂ ++ s₃))
-chain_3 o o₁ o₂ o₃ a a₁ a₂ s₁ s₂ s₃ e₁ f₁ e₂ f₂ e₃ = chain o o₁ o₃ a a₁ s₁ (s₂ ++ s₃) e₁ f₁ (chain o₁ o₂ o₃ a₁ a₂ s₂ s₃ e₂ f₂ e₃)
-
-pub chain_5 : (o o₁ o₂ o₃ o₄ o₅ : List ℕ) (a a₁ a₂ a₃ a₄ : ℕ) (s₁ s₂ s₃ s₄ s₅ : List ℕ)
-    → o₁ ≡ sets o a s₁ → a₁ ≡ a + length s₁ → o₂ ≡ sets o₁ a₁ s₂ → a₂ ≡ a₁ + length s₂ → o₃ ≡ sets o₂ a₂ s₃ → a₃ ≡ a₂ + length s₃
-    → o₄ ≡ sets o₃ a₃ s₄ → a₄ ≡ a₃ + length s₄ → o₅ ≡ sets o₄ a₄ s₅ → o₅ ≡ sets o a (s₁ ++ (s₂ ++ (s₃ ++ (s₄ ++ s₅))))
-chain_5 o o₁ o₂ o₃ o₄ o₅ a a₁ a₂ a₃ a₄ s₁ s₂ s₃ s₄ s₅ e₁ f₁ e₂ f₂ e₃ f₃ e₄ f₄ e₅ =
-    chain o o₁ o₅ a a₁ s₁ _ e₁ f₁ (chain o₁ o₂ o₅ a₁ a₂ s₂ _ e₂ f₂ (chain o₂ o₃ o₅ a₂ a₃ s₃ _ e₃ f₃ (chain o₃ o₄ o₅ a₃ a₄ s₄ s₅ e₄ f₄ e₅)))
+-- bytes put at a cursor, and more after them
+pub puts_then : (s t : List ℕ) (was next is : Cursor) → Puts s was next → Puts t next is → Puts (s ++ t) was is
+puts_then s t was next is p q = record {
+  same = q.same ∙ p.same;
+  size = q.size ∙ p.size;
+  at = q.at ∙ omega (arith, p.at, length-append s t);
+  out = chain was.out.now next.out.now is.out.now was.at next.at s t p.out p.at q.out;
+}
 
 -- what is put into the middle of a list
 pub mid_put : (a k : ℕ) (xs ys zs : List ℕ) → ys ≡ zs → k ≡ length zs → a + length zs ≤ length xs → put_mid a k xs ys ≡ sets xs a zs

@@ -7,6 +7,9 @@ ghost use Rattle.numbers.specs.Numbers.{fault_number, reading_of, read_number, r
 ghost use Rattle.numbers.specs.Laws.{ReadsBack, SignedReadsBack, OneSpelling, SignedOneSpelling};
 
 use arrayvec::ArrayVec;
+use cursors::Cursor;
+
+pub mod cursors;
 
 // The fifth byte of a number is below this.
 const FIFTH_END: u8 = 16;
@@ -96,31 +99,21 @@ fn spelling(value: u32) -> ArrayVec<u8, 5>
 }
 
 /// How many bytes a number takes.
+#[tactic(auto, using(crate::proofs::Writes::length_some))]
 pub fn width(value: u32) -> usize
     ensures is { result ≡ length (encode value) }
+    ensures some { 0 < result }
     ensures few { result ≤ 5 }
 {
     spelling(value).len()
 }
 
-/// Writes a number where there is room, and says where it ends.
-pub fn put_number(out: &mut [u8], at: usize, value: u32) -> usize
-    requires { at + length (encode value) ≤ length out.old }
-    ensures end { result ≡ at + length (encode value) }
-    ensures out { out.new ≡ sets out.old at (encode value) }
+/// How many bytes a signed number takes.
+pub fn signed_width(value: i32) -> usize
+    ensures is { result ≡ length (encode_signed value) }
+    ensures few { result ≤ 5 }
 {
-    put_bytes(out, at, &spelling(value))
-}
-
-/// Writes bytes where there is room, and says where they end.
-pub fn put_bytes(out: &mut [u8], at: usize, bytes: &[u8]) -> usize
-    requires { at + length bytes.now ≤ length out.old }
-    ensures end { result ≡ at + length bytes.now }
-    ensures out { out.new ≡ sets out.old at bytes.now }
-{
-    let end = at + bytes.len();
-    out[at..end].copy_from_slice(bytes);
-    end
+    width(unsigned_of(value))
 }
 
 /// Writes a number from a place on, and says where it ends; where there is no room, nothing is written.
@@ -131,7 +124,9 @@ pub fn write_number(out: &mut [u8], at: usize, value: u32) -> Option<usize>
     if room < width(value) {
         return None;
     }
-    Some(put_number(out, at, value))
+    let mut cursor = Cursor::new(out, at);
+    cursor.put_number(value);
+    Some(cursor.at())
 }
 
 /// Writes a signed number from a place on, and says where it ends; where there is no room, nothing is written.

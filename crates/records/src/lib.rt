@@ -42,15 +42,11 @@ pub struct Part<'a> {
     pub price: u32,
 }
 
-/// What a record says; its name or its terms are a part of the sheet.
+/// What a record says. A record that is read shows its name, and its terms as the bytes T, as parts of the sheet.
 #[derive(Clone, Copy, PartialEq, Eq, Debug, Drop)]
-pub enum Record<'a> {
+pub enum Record<'a, T = &'a [u8]> {
     Part(Part<'a>),
-    Limit {
-        sense: Sense,
-        bound: i32,
-        terms: &'a [u8],
-    },
+    Limit { sense: Sense, bound: i32, terms: T },
     Goal(Goal),
     End,
 }

@@ -1,0 +1,54 @@
+//! Bytes put into a lent slice, one after another.
+ghost use Rattle.std.specs.Prelude.{◌≡◌};
+ghost use Rattle.numbers.specs.Numbers.{encode, encode_signed};
+ghost use Rattle.numbers.specs.Cursors.{HasRoom, Puts};
+
+use crate::{spelling, unsigned_of};
+
+/// A lent slice, and the place in it where the next bytes go.
+#[derive(Drop)]
+pub struct Cursor<'a> {
+    out: &'a mut [u8],
+    at: usize,
+}
+
+impl<'a> Cursor<'a> {
+    /// A cursor at a place of a slice.
+    pub fn new(out: &'a mut [u8], at: usize) -> Cursor<'a>
+        ensures { (result.at ≡ at) × (result.out.now ≡ out.old) × (result.out.ghost_name ≡ out.entry.ghost_name) }
+    {
+        Cursor { out, at }
+    }
+
+    /// The place where the next bytes go.
+    pub fn at(&self) -> usize
+        ensures { result ≡ self.now.at }
+    {
+        self.at
+    }
+
+    /// Puts bytes where there is room.
+    pub fn put_bytes(&mut self, bytes: &[u8])
+        requires { HasRoom bytes.now self.old }
+        ensures { Puts bytes.now self.old self.new }
+    {
+        let end = self.at + bytes.len();
+        self.out[self.at..end].copy_from_slice(bytes);
+        self.at = end;
+    }
+
+    /// Puts a number where there is room.
+    pub fn put_number(&mut self, value: u32)
+        requires { HasRoom (encode value) self.old }
+        ensures { Puts (encode value) self.old self.new }
+    {
+        self.put_bytes(&spelling(value));
+    }
+    /// Puts a signed number where there is room.
+    pub fn put_signed(&mut self, value: i32)
+        requires { HasRoom (encode_signed value) self.old }
+        ensures { Puts (encode_signed value) self.old self.new }
+    {
+        self.put_number(unsigned_of(value));
+    }
+}
