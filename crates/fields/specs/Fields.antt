@@ -1,5 +1,6 @@
 -- How the fields of a sheet's records are read. Each definition here can be computed.
-use Rattle.std.specs.Prelude.{ℕ, ◌+◌, Bool, true, false, cond, not, ◌&&◌, List, [], ◌∷◌, length, take, drop, ℤ, nat_le, unsigned_abs}
+use Rattle.std.specs.Prelude.{ℕ, ◌+◌, Bool, cond, not, ◌&&◌, List, length, take, drop, ℤ, nat_le, unsigned_abs}
+use Rattle.std.specs.List.{list_all, list_any}
 use Rattle.std.specs.Str.{bytes_eq}
 use Rattle.limits.specs.declared.drafts.Term.{Term}
 use Rattle.numbers.specs.Numbers.{Reading, read, unread, read_number, read_signed}
@@ -31,13 +32,11 @@ in_range v = nat_le (unsigned_abs v) 1000000
 
 -- a name's bytes are from 33 to 126
 abbrev pub plain : List ℕ → Bool
-plain [] = true
-plain (b ∷ bs) = (nat_le 33 b && nat_le b 126) && plain bs
+plain bs = list_all (λ b. nat_le 33 b && nat_le b 126) bs
 
 -- a name is one of others
 abbrev pub among : List (List ℕ) → List ℕ → Bool
-among [] name = false
-among (n ∷ ns) name = cond (bytes_eq n name) true (among ns name)
+among names name = list_any (λ n. bytes_eq n name) names
 
 -- Below, `body` is the sheet up to the end of the record's payload, `at` the place of the record's first byte,
 -- and `p` the place that is read.

@@ -4,18 +4,13 @@ ghost use Rattle.fields.specs.Fields.{found, among, read_name_size, read_name};
 ghost use Rattle.fields.specs.Meanings.{fault_of, contents};
 
 use crate::judging::is_plain;
-use crate::{Fault, Reason, number, record_fault};
+use crate::{Fault, Layer, Reason, number};
 
 // Whether a name is among others.
 fn is_among(names: &[&[u8]], name: &[u8]) -> bool
     ensures { result ≡ among (contents names.now) name.now }
 {
-    for n in names {
-        if *n == name {
-            return true;
-        }
-    }
-    false
+    names.contains(&name)
 }
 
 // The length of a part's name.
@@ -26,11 +21,11 @@ fn name_size(body: &[u8], place: usize, at: usize) -> Result<(usize, usize), Fau
 {
     let (size, at) = number(body, at)?;
     if size < 1 || size > 16 {
-        return Err(record_fault(Reason::BadName, place));
+        return Err(Layer::Records.fault(Reason::BadName, place));
     }
     let size = size as usize;
     if body.len() - at < size {
-        return Err(record_fault(Reason::WrongLength, place));
+        return Err(Layer::Records.fault(Reason::WrongLength, place));
     }
     Ok((size, at))
 }
@@ -49,7 +44,7 @@ pub fn name<'a>(
     let (size, at) = name_size(body, place, at)?;
     let name = &body[at..at + size];
     if !is_plain(name) || is_among(names, name) {
-        return Err(record_fault(Reason::BadName, place));
+        return Err(Layer::Records.fault(Reason::BadName, place));
     }
     Ok((name, at + size))
 }

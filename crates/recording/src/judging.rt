@@ -1,23 +1,25 @@
 //! Which records may be written.
-ghost use Rattle.std.specs.Prelude.{◌≡◌, ℕ, ◌≤◌, length, MatchResult};
-ghost use Rattle.limits.specs.Refusals.{done, refused};
-ghost use Rattle.spelling.specs.Judging.{judge_part, judge_term, judge_terms, judge_bound};
-ghost use Rattle.recording.specs.Writing.{refusal_number};
+ghost use Rattle.std.specs.Prelude.{◌≡◌, ℕ, ◌≤◌, length, OnOk};
+ghost use Rattle.spelling.specs.Judging.{judge_part, judge_term, judge_terms, judge_bound, judge};
+ghost use Rattle.spelling.specs.Spelling.{payload};
+ghost use Rattle.recording.specs.Writing.{told, saying};
 
-use crate::Refusal;
-use fields::judging::{in_range, is_plain};
+use crate::{Entry, Refusal};
+use fields::judging::{MOST_AMOUNT, in_range, is_plain};
 use limits::drafts::Term;
+use records::{Part, Record};
+
+// A bound goes so far either way.
+const MOST_BOUND: u32 = 100_000_000;
 
 // Judges a part's name, and then its mass, wait and price.
-pub fn judge_part(name: &[u8], mass: i32, wait: u32, price: u32) -> Result<(), Refusal>
-    ensures { MatchResult result
-        (λ _. (judge_part name.now mass wait price ≡ done) × (length name.now ≤ 16))
-        (λ e. judge_part name.now mass wait price ≡ refused (refusal_number e)) }
+fn judge_part(part: Part) -> Result<(), Refusal>
+    ensures { told result ≡ judge_part part.entry.name.now part.entry.mass part.entry.wait part.entry.price }
 {
-    if name.len() < 1 || name.len() > 16 || !is_plain(name) {
+    if part.name.is_empty() || part.name.len() > 16 || !is_plain(part.name) {
         return Err(Refusal::BadName);
     }
-    if !in_range(mass) || wait > 1_000_000 || price > 1_000_000 {
+    if !in_range(part.mass) || part.wait > MOST_AMOUNT || part.price > MOST_AMOUNT {
         return Err(Refusal::OutOfRange);
     }
     Ok(())
@@ -25,9 +27,7 @@ pub fn judge_part(name: &[u8], mass: i32, wait: u32, price: u32) -> Result<(), R
 
 // Judges a term whose part has to be at least `least`.
 fn judge_term(least: u8, term: Term) -> Result<(), Refusal>
-    ensures { MatchResult result
-        (λ _. (judge_term least term ≡ done) × (term.part ≤ 47) × (least ≤ term.part))
-        (λ e. judge_term least term ≡ refused (refusal_number e)) }
+    ensures { told result ≡ judge_term least term }
 {
     if term.part > 47 {
         return Err(Refusal::PartOutOfRange);
@@ -42,28 +42,43 @@ fn judge_term(least: u8, term: Term) -> Result<(), Refusal>
 }
 
 // Judges a limit's terms, one after another.
-pub fn judge_terms(terms: &[Term]) -> Result<(), Refusal>
-    ensures { MatchResult result
-        (λ _. (judge_terms 0 terms.now ≡ done) × (length terms.now ≤ 48))
-        (λ e. judge_terms 0 terms.now ≡ refused (refusal_number e)) }
+fn judge_terms(terms: &[Term]) -> Result<(), Refusal>
+    ensures { told result ≡ judge_terms 0 terms.now }
 {
     let mut least = 0;
-    let mut i = 0;
-    while i < terms.len() {
-        let term = terms[i];
+    for &term in terms {
         judge_term(least, term)?;
         least = term.part + 1;
-        i += 1;
     }
     Ok(())
 }
 
 // Judges a limit's bound.
-pub fn judge_bound(bound: i32) -> Result<(), Refusal>
-    ensures { MatchResult result (λ _. judge_bound bound ≡ done) (λ e. judge_bound bound ≡ refused (refusal_number e)) }
+fn judge_bound(bound: i32) -> Result<(), Refusal>
+    ensures { told result ≡ judge_bound bound }
 {
-    if bound < -100_000_000 || bound > 100_000_000 {
+    if bound.unsigned_abs() > MOST_BOUND {
         return Err(Refusal::OutOfRange);
     }
     Ok(())
+}
+
+// Judges an entry's fields in their order, and a bound after the terms.
+#[tactic(auto, using(spelling::proofs::Back::short))]
+pub fn judge(entry: Entry) -> Result<(), Refusal>
+    ensures is { told result ≡ judge (saying entry.entry) }
+    ensures small { OnOk result (length (payload (saying entry.entry)) ≤ 1000) }
+{
+    match entry {
+        Record::Part(part) => judge_part(part),
+        Record::Limit {
+            sense: _,
+            bound,
+            terms,
+        } => {
+            judge_terms(terms)?;
+            judge_bound(bound)
+        }
+        Record::Goal(_) | Record::End => Ok(()),
+    }
 }

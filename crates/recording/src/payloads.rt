@@ -1,81 +1,116 @@
-//! The pieces of records, put where there is room.
-ghost use Rattle.std.specs.Prelude.{◌≡◌, ℕ, ◌+◌, ◌-◌, ◌<◌, ◌≤◌, length, MatchResult};
-ghost use Rattle.std.proofs.lemmas.List.Edits.{sets};
-ghost use Rattle.numbers.specs.Numbers.{encode};
-ghost use Rattle.records.specs.Sheets.{part_says};
-ghost use Rattle.spelling.specs.Spelling.{spelled_terms, payload};
-ghost use Rattle.recording.specs.Writing.{refusal_number};
+//! The payloads of records: how many bytes they take, and their bytes, put where there is room.
+ghost use Rattle.std.specs.Prelude.{◌≡◌, ℕ, ◌≤◌, length};
+ghost use Rattle.numbers.specs.Cursors.{HasRoom, Puts};
+ghost use Rattle.records.specs.Codes.{kind_code};
+ghost use Rattle.spelling.specs.Spelling.{spelled_terms, payload, kind_of};
+ghost use Rattle.recording.specs.Writing.{saying, part_payload};
 
-use crate::Refusal;
+use crate::Entry;
 use limits::drafts::Term;
-use numbers::{put_bytes, put_number, unsigned_of, width};
+use numbers::cursors::Cursor;
+use numbers::{signed_width, width};
+use records::{Kind, Part, Record};
+
+// The kind of an entry.
+pub fn kind(entry: Entry) -> Kind
+    ensures { kind_code result ≡ kind_of (saying entry.entry) }
+{
+    match entry {
+        Record::Part(_) => Kind::Part,
+        Record::Limit {
+            sense,
+            bound: _,
+            terms: _,
+        } => Kind::Limit(sense),
+        Record::Goal(_) => Kind::Goal,
+        Record::End => Kind::End,
+    }
+}
+
+// How many bytes a part's payload takes.
+fn part_size(part: Part) -> usize
+    requires { length (part_payload part) ≤ 1000 }
+    ensures { result ≡ length (part_payload part.entry) }
+{
+    width(part.name.len() as u32)
+        + part.name.len()
+        + signed_width(part.mass)
+        + width(part.wait)
+        + width(part.price)
+}
 
 // How many bytes the terms take.
-pub fn terms_size(terms: &[Term]) -> usize
-    requires { length terms.now ≤ 48 }
-    ensures { (result ≡ length (spelled_terms terms.now)) × (result ≤ 480) }
+fn terms_size(terms: &[Term]) -> usize
+    requires { length (spelled_terms terms.now) ≤ 1000 }
+    ensures { result ≡ length (spelled_terms terms.now) }
 {
     let mut size = 0;
-    let mut i = 0;
-    while i < terms.len() {
-        let t = terms[i];
-        size += width(u32::from(t.part)) + width(unsigned_of(t.coefficient));
-        i += 1;
+    for &term in terms {
+        size += width(u32::from(term.part)) + signed_width(term.coefficient);
     }
     size
 }
 
-// Writes terms, and says where they end.
-pub fn put_terms(out: &mut [u8], at: usize, terms: &[Term]) -> usize
-    requires { at + length (spelled_terms terms.now) ≤ length out.old }
-    ensures { (result ≡ at + length (spelled_terms terms.now))
-        × (out.new ≡ sets out.old at (spelled_terms terms.now)) }
+// How many bytes an entry's payload takes.
+pub fn payload_size(entry: Entry) -> usize
+    requires { length (payload (saying entry)) ≤ 1000 }
+    ensures { result ≡ length (payload (saying entry.entry)) }
 {
-    let mut next = at;
-    let mut i = 0;
-    while i < terms.len() {
-        let t = terms[i];
-        next = put_number(out, next, u32::from(t.part));
-        next = put_number(out, next, unsigned_of(t.coefficient));
-        i += 1;
+    match entry {
+        Record::Part(part) => part_size(part),
+        Record::Limit {
+            sense: _,
+            bound,
+            terms,
+        } => signed_width(bound) + terms_size(terms),
+        Record::Goal(goal) => width(u32::from(goal.code())),
+        Record::End => 0,
     }
-    next
 }
 
-// How many bytes a part's payload takes.
-pub fn part_size(name: &[u8], mass: i32, wait: u32, price: u32) -> usize
-    requires { length name.now ≤ 16 }
-    ensures { (result ≡ length (payload (part_says name.now mass wait price))) × (result ≤ 36) }
+// Puts a part's payload.
+#[tactic(auto, using(numbers::proofs::Chains::puts_then))]
+fn put_part(cursor: &mut Cursor, part: Part)
+    requires length { length part.name.now ≤ 1000 }
+    requires room { HasRoom (part_payload part) cursor.old }
+    ensures { Puts (part_payload part.entry) cursor.old cursor.new }
 {
-    width(name.len() as u32) + name.len() + width(unsigned_of(mass)) + width(wait) + width(price)
+    cursor.put_number(part.name.len() as u32);
+    cursor.put_bytes(part.name);
+    cursor.put_signed(part.mass);
+    cursor.put_number(part.wait);
+    cursor.put_number(part.price);
 }
 
-// Writes a part's payload, and says where it ends.
-pub fn put_part(out: &mut [u8], at: usize, name: &[u8], mass: i32, wait: u32, price: u32) -> usize
-    requires { (length name.now ≤ 16) × (at + length (payload (part_says name.now mass wait price)) ≤ length out.old) }
-    ensures { (result ≡ at + length (payload (part_says name.now mass wait price)))
-        × (out.new ≡ sets out.old at (payload (part_says name.now mass wait price))) }
+// Puts terms.
+fn put_terms(cursor: &mut Cursor, terms: &[Term])
+    requires { HasRoom (spelled_terms terms.now) cursor.old }
+    ensures { Puts (spelled_terms terms.now) cursor.old cursor.new }
 {
-    let next = put_number(out, at, name.len() as u32);
-    let next = put_bytes(out, next, name);
-    let next = put_number(out, next, unsigned_of(mass));
-    let next = put_number(out, next, wait);
-    put_number(out, next, price)
-}
-
-// Writes a record's kind and its payload's length, if the whole record has room, and says where the payload begins.
-pub fn put_head(out: &mut [u8], at: usize, kind: u32, size: usize) -> Result<usize, Refusal>
-    requires { size ≤ 1000 }
-    ensures { MatchResult result
-        (λ p. (p ≡ at + (length (encode kind) + length (encode size))) × (p + size ≤ length out.old)
-        × (out.new ≡ sets (sets out.old at (encode kind)) (at + length (encode kind)) (encode size)))
-        (λ e. (refusal_number e ≡ 13) × (length out.old - at < length (encode kind) + length (encode size) + size)
-        × (out.new ≡ out.old)) }
-{
-    let code = size as u32;
-    if out.len().saturating_sub(at) < width(kind) + width(code) + size {
-        return Err(Refusal::OutputShort);
+    for &term in terms {
+        cursor.put_number(u32::from(term.part));
+        cursor.put_signed(term.coefficient);
     }
-    let next = put_number(out, at, kind);
-    Ok(put_number(out, next, code))
+}
+
+// Puts an entry's payload.
+#[tactic(auto, using(numbers::proofs::Chains::puts_then))]
+pub fn put_payload(cursor: &mut Cursor, entry: Entry)
+    requires length { length (payload (saying entry)) ≤ 1000 }
+    requires room { HasRoom (payload (saying entry)) cursor.old }
+    ensures { Puts (payload (saying entry.entry)) cursor.old cursor.new }
+{
+    match entry {
+        Record::Part(part) => put_part(cursor, part),
+        Record::Limit {
+            sense: _,
+            bound,
+            terms,
+        } => {
+            cursor.put_signed(bound);
+            put_terms(cursor, terms);
+        }
+        Record::Goal(goal) => cursor.put_number(u32::from(goal.code())),
+        Record::End => {}
+    }
 }

@@ -1,5 +1,6 @@
 -- What the types of the code mean.
-use Rattle.std.specs.Prelude.{◌≡◌, ℕ, ◌-◌, ◌<◌, ◌≤◌, cond, List, [], length, take, Some, None, Option, nat_lt}
+use Rattle.std.specs.Prelude.{◌≡◌, ℕ, ◌-◌, ◌<◌, ◌≤◌, cond, List, [], length, Some, None, Option, nat_lt}
+use Rattle.std.specs.Borrow.{Bor}
 use Rattle.limits.specs.declared.drafts.Term.{Term}
 use Rattle.records.specs.declared.Reader.{Reader}
 use Rattle.records.specs.declared.Record.{Record}
@@ -16,24 +17,28 @@ terms_of (fault n l p) = []
 abbrev pub terms_in : List ℕ → List Term
 terms_in bytes = terms_of (read_terms (length bytes) bytes 0 0 0)
 
--- what a record says
-abbrev pub said : Record → Saying
-said (Part name mass wait price) = part_says name.now mass wait price
-said (Limit sense bound terms) = limit_says sense bound (terms_in terms.now)
-said (Goal goal) = goal_says goal
-said End = end_says
+-- what a record says, where `terms` reads a limit's terms
+abbrev pub says : {T : Type 0} → (T → List Term) → Record T → Saying
+says terms (Part p) = part_says p.name.now p.mass p.wait p.price
+says terms (Limit sense bound ts) = limit_says sense bound (terms ts)
+says terms (Goal goal) = goal_says goal
+says terms End = end_says
+
+-- what a record that was read says
+abbrev pub said : Record (Bor (List ℕ)) → Saying
+said r = says (λ bytes. terms_in bytes.now) r
 
 -- the names of the parts that a reader has read
 abbrev pub held_names : Reader → List (List ℕ)
-held_names r = contents (take r.count r.names)
+held_names r = contents r.names.items
 
 -- `ts` are the terms that are left to read in a list of terms, from a place of it on
 abbrev pub LeftIn : List ℕ → ℕ → ℕ → List Term → Type 0
 LeftIn bytes least at ts = (n : ℕ) × (length bytes - at ≤ n) × (read_terms n bytes 0 least at ≡ found ts (length bytes))
 
 -- what else is known of a record that is read after n parts: a part is not the forty-ninth, and a limit's terms read to their end
-abbrev pub Shows : Record → ℕ → Type 0
-Shows (Part name mass wait price) n = n < 48
+abbrev pub Shows : Record (Bor (List ℕ)) → ℕ → Type 0
+Shows (Part p) n = n < 48
 Shows (Limit sense bound terms) n = LeftIn terms.now 0 0 (terms_in terms.now)
 Shows (Goal goal) n = Unit {0}
 Shows End n = Unit {0}

@@ -3,38 +3,12 @@ ghost use Rattle.std.specs.Prelude.{◌≡◌, ℕ, ◌+◌, ◌<◌, ◌≤◌,
 ghost use Rattle.fields.specs.Fields.{found};
 ghost use Rattle.fields.specs.Meanings.{fault_of, contents};
 ghost use Rattle.records.specs.Codes.{kind_code};
-ghost use Rattle.records.specs.Sheets.{allowed, read_kind, read_length, read_sized, read_record};
+ghost use Rattle.records.specs.Sheets.{read_kind, read_length, read_sized, read_record};
 ghost use Rattle.records.specs.Meanings.{said, Shows};
 
 use crate::payloads::payload;
 use crate::{Kind, Record, Stage};
-use fields::{Fault, Reason, number, record_fault};
-use limits::Sense;
-
-// Whether a record of a kind may come now.
-fn may_come(stage: Stage, code: u32) -> bool
-    ensures { result ≡ allowed stage code }
-{
-    match stage {
-        Stage::Parts => code < 5,
-        Stage::Limits => code < 5 && code != 1,
-        Stage::End => code == 0,
-    }
-}
-
-// The kind of a code below 5.
-fn kind_of(code: u32) -> Kind
-    requires { code < 5 }
-    ensures { kind_code result ≡ code }
-{
-    match code {
-        0 => Kind::End,
-        1 => Kind::Part,
-        2 => Kind::Limit(Sense::AtMost),
-        3 => Kind::Limit(Sense::AtLeast),
-        _ => Kind::Goal,
-    }
-}
+use fields::{Fault, Layer, Reason, number};
 
 // The kind of the record at `at`.
 fn kind_at(sheet: &[u8], stage: Stage, at: usize) -> Result<(Kind, usize), Fault>
@@ -43,10 +17,10 @@ fn kind_at(sheet: &[u8], stage: Stage, at: usize) -> Result<(Kind, usize), Fault
         (λ f. read_kind stage sheet.now at ≡ fault_of f) }
 {
     let (code, next) = number(sheet, at)?;
-    if !may_come(stage, code) {
-        return Err(record_fault(Reason::BadKind, at));
+    match Kind::try_from(code) {
+        Ok(kind) if stage.allows(kind) => Ok((kind, next)),
+        _ => Err(Layer::Records.fault(Reason::BadKind, at)),
     }
-    Ok((kind_of(code), next))
 }
 
 // The length of the payload of the record at `place`.
@@ -58,7 +32,7 @@ fn length_at(sheet: &[u8], place: usize, at: usize) -> Result<(usize, usize), Fa
     let (size, next) = number(sheet, at)?;
     let size = size as usize;
     if sheet.len() - next < size {
-        return Err(record_fault(Reason::WrongLength, place));
+        return Err(Layer::Records.fault(Reason::WrongLength, place));
     }
     Ok((size, next))
 }

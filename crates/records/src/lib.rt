@@ -1,73 +1,65 @@
 //! A sheet of records, read one after another; names and terms are shown as parts of the sheet.
 #![tactic(auto)]
 
-ghost use Rattle.std.specs.Prelude.{◌≡◌, ℕ, ◌≤◌, length};
-ghost use Rattle.records.specs.Codes.{goal_code};
+ghost use Rattle.std.specs.Prelude.{◌≤◌, length};
 
+use arrayvec::ArrayVec;
 use limits::Sense;
 
+mod codes;
 mod heads;
 mod limit_terms;
 mod payloads;
 mod reading;
 
 /// What a choice is graded by.
-#[derive(Clone, Copy)]
+#[derive(Clone, Copy, PartialEq, Eq, Debug, Drop)]
 pub enum Goal {
-    Mass,
-    Wait,
-    MassPrice,
+    Mass = 0,
+    Wait = 1,
+    MassPrice = 2,
 }
 
-impl Goal {
-    /// The code by which a sheet names the goal.
-    pub fn code(self) -> u8
-        ensures { result ≡ goal_code self }
-    {
-        match self {
-            Goal::Mass => 0,
-            Goal::Wait => 1,
-            Goal::MassPrice => 2,
-        }
-    }
-}
-
-// The kinds of records.
-#[derive(Clone, Copy)]
-pub(crate) enum Kind {
+/// The kinds of records.
+#[derive(Clone, Copy, PartialEq, Eq, Debug, Drop)]
+pub enum Kind {
     End,
     Part,
     Limit(Sense),
     Goal,
 }
 
-/// What a record says; its name or its terms are a part of the sheet.
-#[derive(Clone, Copy)]
-pub enum Record<'a> {
-    Part {
-        name: &'a [u8],
-        mass: i32,
-        wait: u32,
-        price: u32,
-    },
-    Limit {
-        sense: Sense,
-        bound: i32,
-        terms: &'a [u8],
-    },
+/// A code that names no goal, or no kind of record.
+#[derive(Clone, Copy, PartialEq, Eq, Debug, Drop)]
+pub struct UnknownCode(pub u32);
+
+/// A part: its name, as a part of the sheet, and its mass, wait and price.
+#[derive(Clone, Copy, PartialEq, Eq, Debug, Drop)]
+pub struct Part<'a> {
+    pub name: &'a [u8],
+    pub mass: i32,
+    pub wait: u32,
+    pub price: u32,
+}
+
+/// What a record says. A record that is read shows its name, and its terms as the bytes T, as parts of the sheet.
+#[derive(Clone, Copy, PartialEq, Eq, Debug, Drop)]
+pub enum Record<'a, T = &'a [u8]> {
+    Part(Part<'a>),
+    Limit { sense: Sense, bound: i32, terms: T },
     Goal(Goal),
     End,
 }
 
 /// A record and the place of its first byte.
-#[derive(Clone, Copy)]
+#[derive(Clone, Copy, PartialEq, Eq, Debug, Drop)]
 pub struct Placed<'a> {
     pub place: usize,
     pub record: Record<'a>,
 }
 
 /// Which records may come next: any, or none but limits, a goal and the end, or none but the end.
-#[derive(Clone, Copy)]
+#[derive(Clone, Copy, PartialEq, Eq, Debug, Drop)]
 pub enum Stage {
     Parts,
     Limits,
@@ -80,9 +72,8 @@ pub struct Reader<'a> {
     sheet: &'a [u8],
     at: usize,
     stage: Stage,
-    names: [&'a [u8]; 48],
-    count: usize,
-    ghost ok: { (at ≤ length sheet.now) × (count ≤ 48) },
+    names: ArrayVec<&'a [u8], 48>,
+    ghost ok: { at ≤ length sheet.now },
 }
 
 /// The terms of a limit that was read, one after another; the next one's part is at least `least`.

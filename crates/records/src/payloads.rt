@@ -1,15 +1,15 @@
 //! The payloads of records, by their kinds.
 ghost use Rattle.std.specs.Prelude.{◌≡◌, ℕ, ◌-◌, ◌<◌, ◌≤◌, cond, List, length, MatchOption, MatchResult};
 ghost use Rattle.limits.specs.declared.drafts.Term.{Term as LimitTerm};
-ghost use Rattle.records.specs.Codes.{goal_of, kind_code};
+ghost use Rattle.records.specs.Codes.{kind_code};
 ghost use Rattle.fields.specs.Fields.{found};
 ghost use Rattle.fields.specs.Meanings.{fault_of, contents};
 ghost use Rattle.records.specs.Sheets.{end_says, ended, read_terms, read_named_part, read_part, read_limit, read_goal, read_payload};
 ghost use Rattle.records.specs.Meanings.{said, Shows};
 
-use crate::{Goal, Kind, Record};
+use crate::{Goal, Kind, Part, Record};
 use fields::naming::name;
-use fields::{Fault, Reason, amount, mass, number, record_fault, signed, term};
+use fields::{Fault, Layer, Reason, amount, mass, number, signed, term};
 use limits::Sense;
 
 // How many parts a sheet may have.
@@ -25,14 +25,14 @@ fn named_part<'a>(name: &'a [u8], body: &[u8], place: usize, at: usize) -> Resul
     let (wait, at) = amount(body, place, at)?;
     let (price, at) = amount(body, place, at)?;
     if at < body.len() {
-        return Err(record_fault(Reason::WrongLength, place));
+        return Err(Layer::Records.fault(Reason::WrongLength, place));
     }
-    Ok(Record::Part {
+    Ok(Record::Part(Part {
         name,
         mass,
         wait,
         price,
-    })
+    }))
 }
 
 // The part whose record is at `place`.
@@ -48,22 +48,10 @@ fn part<'a>(
         (λ f. read_part (contents names.now) body.now place at ≡ fault_of f) }
 {
     if names.len() >= MOST_PARTS {
-        return Err(record_fault(Reason::PartOutOfRange, place));
+        return Err(Layer::Records.fault(Reason::PartOutOfRange, place));
     }
     let (name, at) = name(body, names, place, at)?;
     named_part(name, body, place, at)
-}
-
-// The goal of a code.
-fn goal_of(code: u32) -> Option<Goal>
-    ensures { MatchOption result (2 < code) (λ g. (code ≤ 2) × (g ≡ goal_of code)) }
-{
-    match code {
-        0 => Some(Goal::Mass),
-        1 => Some(Goal::Wait),
-        2 => Some(Goal::MassPrice),
-        _ => None,
-    }
 }
 
 // The goal whose record is at `place`.
@@ -73,11 +61,11 @@ fn goal<'a>(body: &'a [u8], place: usize, at: usize) -> Result<Record<'a>, Fault
         (λ f. read_goal body.now place at ≡ fault_of f) }
 {
     let (code, at) = number(body, at)?;
-    let Some(goal) = goal_of(code) else {
-        return Err(record_fault(Reason::BadGoal, place));
+    let Ok(goal) = Goal::try_from(code) else {
+        return Err(Layer::Records.fault(Reason::BadGoal, place));
     };
     if at < body.len() {
-        return Err(record_fault(Reason::WrongLength, place));
+        return Err(Layer::Records.fault(Reason::WrongLength, place));
     }
     Ok(Record::Goal(goal))
 }
@@ -122,7 +110,7 @@ fn end<'a>(sheet: &'a [u8], place: usize, at: usize) -> Result<Record<'a>, Fault
         (λ f. ended sheet.now place end_says at ≡ fault_of f) }
 {
     if at < sheet.len() {
-        return Err(record_fault(Reason::WrongLength, place));
+        return Err(Layer::Records.fault(Reason::WrongLength, place));
     }
     Ok(Record::End)
 }

@@ -1,5 +1,6 @@
 //! A sheet read record by record.
 ghost use Rattle.std.specs.Prelude.{◌≡◌, ℕ, ◌<◌, ◌≤◌, List, [], length, MatchResult};
+ghost use Rattle.arrayvec.specs.ArrayVec.{array_vec_len};
 ghost use Rattle.fields.specs.Fields.{found};
 ghost use Rattle.fields.specs.Meanings.{fault_of, contents};
 ghost use Rattle.records.specs.Sheets.{read_record, stage_after, names_after};
@@ -7,6 +8,7 @@ ghost use Rattle.records.specs.Meanings.{said, held_names, Shows};
 
 use crate::heads::record_at;
 use crate::{Placed, Reader, Record, Stage};
+use arrayvec::ArrayVec;
 use fields::Fault;
 
 impl<'a> Reader<'a> {
@@ -18,8 +20,7 @@ impl<'a> Reader<'a> {
             sheet,
             at: 0,
             stage: Stage::Parts,
-            names: [sheet; 48],
-            count: 0,
+            names: ArrayVec::new(),
         }
     }
 
@@ -39,7 +40,7 @@ impl<'a> Reader<'a> {
             × (self.new ≡ self.old)) }
     {
         let place = self.at;
-        let (record, after) = record_at(self.sheet, self.stage, &self.names[..self.count], place)?;
+        let (record, after) = record_at(self.sheet, self.stage, &self.names, place)?;
         self.pass(record, after);
         Ok(Placed { place, record })
     }
@@ -48,26 +49,20 @@ impl<'a> Reader<'a> {
     pub fn names(&self) -> &[&'a [u8]]
         ensures { contents result.now ≡ held_names self.now }
     {
-        &self.names[..self.count]
+        self.names.as_slice()
     }
 
     // Goes past a record that was read, to the place after it.
     fn pass(&mut self, record: Record<'a>, after: usize)
-        requires { (after ≤ length self.old.sheet.now) × Shows «record» self.old.count }
+        requires { (after ≤ length self.old.sheet.now) × Shows «record» (array_vec_len self.old.names) }
         ensures { (self.new.sheet.now ≡ self.old.sheet.now)
             × (self.new.at ≡ after)
             × (self.new.stage ≡ stage_after self.old.stage (said «record».entry))
             × (held_names self.new ≡ names_after (held_names self.old) (said «record».entry)) }
     {
         match record {
-            Record::Part {
-                name,
-                mass: _,
-                wait: _,
-                price: _,
-            } => {
-                self.names[self.count] = name;
-                self.count += 1;
+            Record::Part(part) => {
+                self.names.push(part.name);
                 self.stage = Stage::Parts;
             }
             Record::Limit {

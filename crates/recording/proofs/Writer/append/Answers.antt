@@ -1,12 +1,7 @@
-use Rattle.std.proofs.Common.{refl, rules}
 use Rattle.spelling.proofs.Back.{back_in}
 use Rattle.recording.proofs.Writer.append.Goals as goal
 
-pub returns : goal.returns
-returns c =
+pub returns-clause-back : goal.returns-clause-back
+returns-clause-back c =
     let h = c.in_ok-end.ensures in
-    record {
-      same = refl;
-      cases = (h.0, h.1, search rules, search rules);
-      back = back_in _ c.args.self.now.out.now c.write.new.out c.args.self.now.len c.in_ok-end.end h.0 h.1 h.2 h.3;
-    }
+    back_in _ c.args.self.now.out.now c.write.new.out c.args.self.now.len c.in_ok-end.end h.0 h.1 h.2 h.3

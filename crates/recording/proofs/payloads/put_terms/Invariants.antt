@@ -1,13 +1,12 @@
-use Rattle.std.proofs.Common.{◌≡◌, ◌+◌, ◌-◌, ◌≤◌, length, drop}
-use lib.Seq.{sets}
+use Rattle.std.proofs.Common.{drop}
+use Rattle.numbers.specs.declared.cursors.Cursor.{Cursor}
+use Rattle.numbers.specs.Cursors.{HasRoom, Puts}
 use Rattle.spelling.specs.Spelling.{spelled_terms}
 use Rattle.recording.proofs.payloads.put_terms.Given as goal
 
-abbrev pub invariant-loop-i : goal.invariant-loop-i
-invariant-loop-i l =
-    (l.i ≤ length l.terms)
-    × (l.next + length (spelled_terms (drop l.i l.terms)) ≡ l.at + length (spelled_terms l.terms))
-    × (sets l.out l.next (spelled_terms (drop l.i l.terms)) ≡ sets l.initial.out l.at (spelled_terms l.terms))
-
-abbrev pub decreases-loop-i : goal.decreases-loop-i
-decreases-loop-i l = length l.terms - l.i
+-- the terms that are left have room, and once they are put, all are
+abbrev pub invariant-loop-term : goal.invariant-loop-term
+invariant-loop-term l = record {
+  room : HasRoom (spelled_terms (drop l.term-index l.terms)) l.cursor;
+  all : (end : Cursor) → Puts (spelled_terms (drop l.term-index l.terms)) l.cursor end → Puts (spelled_terms l.terms) l.initial.cursor end;
+}
