@@ -3,4 +3,3 @@ pub mod Saying
 pub mod Onward
 pub mod Rounds
 pub mod Stages
-pub mod Weights

@@ -1,5 +1,5 @@
--- Terms make a draft; a part is pushed.
-use Rattle.std.proofs.Common.{◌≡◌, ℕ, ◌+◌, ◌<◌, ◌≤◌, true, cond, ltb, leb, List, [], ◌∷◌, ◌++◌, length, take, set, replicate, ℤ, pos, nat_abs, Some, None, Option, sym, refl, ap, ◌∙◌, subst, ap₂, add-one, arith, take-suc-set, lt-ltb, le-leb}
+-- Terms make a draft.
+use Rattle.std.proofs.Common.{◌≡◌, ℕ, ◌+◌, ◌≤◌, true, cond, ltb, leb, List, [], ◌∷◌, set, replicate, ℤ, pos, nat_abs, Some, None, Option, sym, refl, ap, ◌∙◌, subst, arith, lt-ltb, le-leb}
 use Rattle.std.proofs.lemmas.Bool.{leb-true}
 use Rattle.fields.specs.Fields.{found, fault, and_then, number_at, signed_at, in_range, read_term, coefficient_at}
 use Rattle.spelling.proofs.Sole.{then_from, cond_from}
@@ -8,7 +8,6 @@ use Rattle.limits.specs.Refusals.{done, refused}
 use Rattle.limits.specs.Drafts.{tested, coefficients_after, last_after}
 use Rattle.records.specs.Meanings.{LeftIn}
 use Rattle.sheets.specs.Told.{filled, highest}
-use Rattle.sheets.specs.Notes.{parts_from}
 
 -- the next term's part is at least `least`, one above the highest part named
 abbrev pub AfterLast : Option ℕ → ℕ → Type 0
@@ -72,14 +71,3 @@ pub made_last : (all : List ℕ) (cs : List ℤ) (last : Option ℕ) (b : List �
     → Made all cs last b least at → (ts : List Term) → LeftIn all 0 0 ts → last ≡ highest None ts
 made_last all cs last b least at none made ts l =
     let (us, m, f, h) = made ts l in sym (h ∙ ap (highest last) (none us m))
-
--- parts
-parts_append : (ws : List ℕ) (cs : List (ℤ × ℕ)) (w : ℕ) (c : ℤ × ℕ) → length ws ≡ length cs → parts_from (ws ++ (w ∷ [])) (cs ++ (c ∷ [])) ≡ parts_from ws cs ++ (record { mass = c.0; wait = w; price = c.1 } ∷ [])
-parts_append [] [] w c h = refl
-parts_append [] (d ∷ cs) w c h = absurd (omega arith)
-parts_append (v ∷ ws) [] w c h = absurd (omega arith)
-parts_append (v ∷ ws) (d ∷ cs) w c h = ap (λ s. record { mass = d.0; wait = v; price = d.1 } ∷ s) (parts_append ws cs w c (omega arith))
-
-pub parts_push : (ws : List ℕ) (cs : List (ℤ × ℕ)) (n w : ℕ) (c : ℤ × ℕ) → n < length ws → n < length cs → length (take n ws) ≡ length (take n cs)
-    → parts_from (take (n + 1) (set ws n w)) (take (n + 1) (set cs n c)) ≡ parts_from (take n ws) (take n cs) ++ (record { mass = c.0; wait = w; price = c.1 } ∷ [])
-parts_push ws cs n w c h k e = rw add-one (ap₂ parts_from (take-suc-set ws n w h) (take-suc-set cs n c k) ∙ parts_append (take n ws) (take n cs) w c e)

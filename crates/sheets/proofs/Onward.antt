@@ -1,6 +1,5 @@
 -- One record's step is the definition's.
-use Rattle.std.proofs.Common.{◌≡◌, ℕ, suc, ◌+◌, ◌≤◌, cond, List, [], ◌∷◌, ◌++◌, length, take, ℤ, None, Option, sym, refl, ap, ◌∙◌, arith, length-append, le-leb}
-use Rattle.std.proofs.lemmas.List.{length-take-le}
+use Rattle.std.proofs.Common.{◌≡◌, ℕ, ◌+◌, ◌≤◌, cond, List, [], ◌∷◌, ◌++◌, length, ℤ, None, Option, sym, refl, ap, ◌∙◌, arith, length-append, le-leb}
 use Rattle.records.specs.declared.Stage.{Stage}
 use Rattle.records.specs.declared.Stage.TheVariants.{Parts, Limits}
 use Rattle.fields.specs.Fields.{found}
@@ -13,10 +12,7 @@ use Rattle.limits.specs.Refusals.{Reply, done, refused}
 use Rattle.records.specs.declared.Goal.{Goal}
 use Rattle.jobs.specs.Calls.{Standing, standing, closed, after_close, if_done, after_begin}
 use Rattle.sheets.specs.Told.{Part, Told, broken, goes_on, on_reply, on_record, one_step, after_record, highest, limit_of}
-use Rattle.sheets.specs.Notes.{parts_from, parts_of, NoneYet}
-use Rattle.sheets.specs.declared.Flaw.{Flaw}
-use Rattle.sheets.specs.declared.Notes.{Notes}
-use Rattle.sheets.specs.declared.Progress.TheVariants.{GoesOn, Broken}
+use Rattle.sheets.specs.Notes.{NoneYet}
 
 abbrev pub tell : Stage → List (List ℕ) → List Part → List Limit → Goal → Told
 tell st names ps ls g = record { stage = st; names = names; parts = ps; limits = ls; goal = g }
@@ -26,17 +22,9 @@ told_same : (st st' : Stage) (names names' : List (List ℕ)) (ps ps' : List Par
 told_same st st' names names' ps ps' ls ls' g g' a b c d e =
     ap (λ x. tell x names ps ls g) a ∙ ap (λ x. tell st' x ps ls g) b ∙ ap (λ x. tell st' names' x ls g) c ∙ ap (λ x. tell st' names' ps' x g) d ∙ ap (λ x. tell st' names' ps' ls' x) e
 
-parts_length : (ws : List ℕ) (cs : List (ℤ × ℕ)) → length ws ≡ length cs → length (parts_from ws cs) ≡ length ws
-parts_length [] [] h = refl
-parts_length [] (c ∷ cs) h = absurd (omega arith)
-parts_length (w ∷ ws) [] h = absurd (omega arith)
-parts_length (w ∷ ws) (c ∷ cs) h = ap suc (parts_length ws cs (omega arith))
-
-pub count_is : (d : Notes) → length d.waits ≡ 48 → length d.costs ≡ 48 → d.count ≤ 48 → length (parts_of d) ≡ d.count
-count_is d w c f =
-    let a = length-take-le d.count d.waits (omega arith) in
-    let b = length-take-le d.count d.costs (omega arith) in
-    parts_length (take d.count d.waits) (take d.count d.costs) (a ∙ sym b) ∙ a
+no_limits : (ls : List Limit) → length ls ≡ 0 → ls ≡ []
+no_limits [] h = refl
+no_limits (l ∷ ls) h = absurd (omega arith)
 
 begun_at : (s : Standing) (n : ℕ) → n ≤ 48 → after_begin s n ≡ standing n []
 begun_at s n h = ap (λ b. if_done (cond b done (refused 7)) (standing n []) s) (le-leb n 48 h)
@@ -53,7 +41,7 @@ module _ (room : ℕ) (sheet : List ℕ) (at next : ℕ) (st st' : Stage) (names
       → NoneYet st ls
       → goes_on (tell st' names' ps' ls' g') next ≡ one_step room sheet (tell st names ps ls g) at
   part_step name mass wait price e a b c d f none =
-      ap (λ t. goes_on t next) (told_same st' Parts names' (names ++ (name ∷ [])) ps' (ps ++ (record { mass = mass; wait = wait; price = price } ∷ [])) ls' ls g' g a b c (d ∙ sym (none (part_in_parts st names sheet at name mass wait price next e))) f)
+      ap (λ t. goes_on t next) (told_same st' Parts names' (names ++ (name ∷ [])) ps' (ps ++ (record { mass = mass; wait = wait; price = price } ∷ [])) ls' ls g' g a b c (d ∙ sym (no_limits ls (none (part_in_parts st names sheet at name mass wait price next e)))) f)
       ∙ sym (ap (on_record room (tell st names ps ls g) at) e)
 
   pub limit_step : (n n' : ℕ) (b : Sense) (v : ℤ) (ts : List Term) → read_record st names sheet at ≡ found (limit_says b v ts) next
@@ -86,6 +74,3 @@ none_in_limits st ls e f = let z : Limits ≡ Parts = sym e ∙ f in let y : ◌
 
 pub names_push : (names names' : List (List ℕ)) (n : List ℕ) (k m : ℕ) → names' ≡ names ++ (n ∷ []) → length names ≡ k → m ≡ k + 1 → length names' ≡ m
 names_push names names' n k m e f g = let a = ap length e ∙ length-append names (n ∷ []) in omega arith
-
-pub not_on : {C : Type 0} (f : Flaw) → Broken f ≡ GoesOn → C
-not_on f e = let y : ◌≡◌ {A = ℕ} 0 1 = cc in absurd (omega arith)

@@ -1,8 +1,6 @@
 -- The loop over a sheet's records is the definition's recursion.
-use Rattle.std.proofs.Common.{◌≡◌, ℕ, zero, suc, ◌+◌, ◌-◌, ◌<◌, ◌≤◌, min, Bool, true, false, cond, leb, List, [], length, sym, refl, ap, ◌∙◌, subst, arith, le-leb}
+use Rattle.std.proofs.Common.{◌≡◌, ℕ, zero, suc, ◌+◌, ◌-◌, ◌<◌, ◌≤◌, min, Bool, true, false, cond, leb, List, length, sym, refl, ap, ◌∙◌, subst, arith, le-leb}
 use Rattle.std.proofs.lemmas.Bool.{cond-true, leb-true}
-use Rattle.records.specs.declared.Goal.TheVariants.{Mass}
-use Rattle.records.specs.declared.Stage.TheVariants.{Parts}
 use Rattle.sheets.specs.Told.{Told, untold, Step, broken, ended, goes_on, one_step, Reading, whole, faulty, read_all, read_sheet}
 
 -- from here on, reading comes to `total`
@@ -21,16 +19,9 @@ read_suc : (more room : ℕ) (sheet : List ℕ) (i : ℕ) (t : Told) (at : ℕ) 
 unfolding read_all on_step
 read_suc more room sheet i t at s e = ap (on_step more room sheet i) (sym e)
 
-pub rest_start : (room : ℕ) (sheet : List ℕ) (t : Told) (at : ℕ) → at ≡ 0 → t.stage ≡ Parts → t.names ≡ [] → t.parts ≡ [] → t.limits ≡ [] → t.goal ≡ Mass
-    → Rest room sheet 0 t at (read_all (suc (length sheet)) room sheet 0 untold 0)
-rest_start room sheet t at a b c d e f =
-    let same : t ≡ untold =
-    ap (λ x. record { stage = x; names = t.names; parts = t.parts; limits = t.limits; goal = t.goal }) b
-    ∙ ap (λ x. record { stage = Parts; names = x; parts = t.parts; limits = t.limits; goal = t.goal }) c
-    ∙ ap (λ x. record { stage = Parts; names = []; parts = x; limits = t.limits; goal = t.goal }) d
-    ∙ ap (λ x. record { stage = Parts; names = []; parts = []; limits = x; goal = t.goal }) e
-    ∙ ap (λ x. record { stage = Parts; names = []; parts = []; limits = []; goal = x }) f in
-    (suc (length sheet), omega arith, ap (λ x. read_all (suc (length sheet)) room sheet 0 x at) same ∙ ap (λ i. read_all (suc (length sheet)) room sheet 0 untold i) a)
+pub rest_start : (room : ℕ) (sheet : List ℕ) (t : Told) (at : ℕ) → t ≡ untold → at ≡ 0 → Rest room sheet 0 t at (read_all (suc (length sheet)) room sheet 0 untold 0)
+rest_start room sheet t at same start =
+    (suc (length sheet), omega arith, ap (λ x. read_all (suc (length sheet)) room sheet 0 x at) same ∙ ap (λ i. read_all (suc (length sheet)) room sheet 0 untold i) start)
 
 module _ (room : ℕ) (sheet : List ℕ) (i : ℕ) (t : Told) (at : ℕ) (total : Reading) where
   pub rest_more : (u : Told) (next : ℕ) → goes_on u next ≡ one_step room sheet t at → at < next → next ≤ length sheet → Rest room sheet i t at total → Rest room sheet (i + 1) u next total

@@ -1,3 +1,5 @@
 pub mod Told
+pub mod Faults
 pub mod Notes
+pub mod Sheets
 pub mod Says

@@ -17,7 +17,8 @@ use Rattle.tables.specs.declared.NodeTable.{NodeTable}
 use Rattle.limits.specs.declared.Limit.{Limit}
 use Rattle.tables.specs.Places.{made, Grew}
 use Rattle.walks.specs.Walked.{Walked}
-use Rattle.questions.specs.Bounds.{operation_of, bound_edge, kept_question}
+use Rattle.questions.specs.Bounds.{bound_edge, kept_question}
+use Rattle.diagrams.specs.Apply.{operation_of}
 use Rattle.questions.proofs.Bounded.{fit_sense, meaning_kept}
 use Rattle.walks.specs.Extended.{kept, times, Begins, Builds, Denotes, Built}
 use Rattle.walks.proofs.Once.{grew_on}

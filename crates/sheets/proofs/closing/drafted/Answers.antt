@@ -2,7 +2,7 @@ use Rattle.std.proofs.Common.{◌≡◌, replicate, pos, sym, subst}
 use Rattle.limits.specs.Refusals.{done}
 use Rattle.limits.specs.Drafts.{tested}
 use Rattle.sheets.proofs.Makes.{Made, AfterLast, made_none, takes, term_judged, made_more, after_more, made_coefficients, made_last}
-use Rattle.sheets.proofs.steps.drafted.Goals as goal
+use Rattle.sheets.proofs.closing.drafted.Goals as goal
 
 pub loop-term-init : goal.loop-term-init
 loop-term-init c =

@@ -1,6 +1,6 @@
 use Rattle.std.proofs.Common.{◌-◌, length}
 use Rattle.sheets.proofs.Makes.{Made, AfterLast}
-use Rattle.sheets.proofs.steps.drafted.Given as goal
+use Rattle.sheets.proofs.closing.drafted.Given as goal
 
 abbrev pub invariant-loop-term : goal.invariant-loop-term
 invariant-loop-term l =
