@@ -30,18 +30,6 @@ fn top(table: &NodeTable, q: Question) -> u8
         .min(table.part_of(q.right.child))
 }
 
-// The question that is left when a part is settled.
-fn ask_settled(table: &NodeTable, q: Question, part: u8, fitted: bool) -> Question
-    requires { (CanSettle table.now q.left part) × (CanSettle table.now q.right part) }
-    ensures { Settled (made table.now) part q fitted result }
-{
-    Question {
-        operation: q.operation,
-        left: table.settle(q.left, part, fitted),
-        right: table.settle(q.right, part, fitted),
-    }
-}
-
 // The answer where the range of what is left of the sum decides the comparison.
 fn by_range(table: &NodeTable, ranges: &[Range], q: Question) -> Option<Edge>
     requires { CanLook table.now ranges.now q }
@@ -61,18 +49,32 @@ struct Frame {
     fit: Option<Edge>,
 }
 
+impl Frame {
+    // The question that is left when the part is settled.
+    fn settled(self, table: &NodeTable, fitted: bool) -> Question
+        requires { (CanSettle table.now self.question.left self.part) × (CanSettle table.now self.question.right self.part) }
+        ensures { Settled (made table.now) self.part self.question fitted result }
+    {
+        Question {
+            operation: self.question.operation,
+            left: table.settle(self.question.left, self.part, fitted),
+            right: table.settle(self.question.right, self.part, fitted),
+        }
+    }
+}
+
 // Opens q: the question with its least part fitted is asked next.
 fn open_question(table: &NodeTable, stack: &mut ArrayVec<Frame, 48>, q: Question) -> Question
     requires { CanOpen table.now stack.old.items q }
     ensures { Went table.now q stack.old.items stack.new.items result }
 {
-    let part = top(table, q);
-    stack.push(Frame {
+    let opened = Frame {
         question: q,
-        part,
+        part: top(table, q),
         fit: None,
-    });
-    ask_settled(table, q, part, true)
+    };
+    stack.push(opened);
+    opened.settled(table, true)
 }
 
 // The answer where the question itself or the ranges settle it, or the one that is remembered.
@@ -123,12 +125,8 @@ fn walk<M: Memory>(
             return Some(e);
         };
         let Some(fit) = f.fit else {
-            q = ask_settled(table, f.question, f.part, false);
-            stack.push(Frame {
-                question: f.question,
-                part: f.part,
-                fit: Some(e),
-            });
+            q = f.settled(table, false);
+            stack.push(Frame { fit: Some(e), ..f });
             answer = None;
             continue;
         };

@@ -65,8 +65,8 @@ returns-in_default-pop g c = record {
   right = c.loop-answer.invariant.right;
 }
 
-pub ask_settled-q-requires : goal.ask_settled-q-requires
-ask_settled-q-requires g c =
+pub settled-q-requires : goal.settled-q-requires
+settled-q-requires g c =
     let w = in_state (c.loop-answer.invariant.walking c.requires.can.0 c.requires.can.1 c.requires.can.2) c.in-Some.is in
     let o = (newest w c.in-Some-pop.f (reverse c.pop.new.self.items) (on_top _ _ _ c.in-Some-pop.ensures.items)).0.opened in
     (can_left o, can_right o)
@@ -84,7 +84,7 @@ push-requires g c =
 pub loop-answer-preserved-in_default-fit : goal.loop-answer-preserved-in_default-fit
 loop-answer-preserved-in_default-fit g c = record {
   right = c.loop-answer.invariant.right;
-  walking = λ ts table a. turn_second (in_state (c.loop-answer.invariant.walking ts table a) c.in-Some.is) c.in-Some-pop.f (reverse c.pop.new.self.items) (on_top _ _ _ c.in-Some-pop.ensures.items) c.in_default-fit.is c.ask_settled-q.result c.ask_settled-q.ensures (reverse c.push.new.self.items) (on_top _ _ _ c.push.ensures.items);
+  walking = λ ts table a. turn_second (in_state (c.loop-answer.invariant.walking ts table a) c.in-Some.is) c.in-Some-pop.f (reverse c.pop.new.self.items) (on_top _ _ _ c.in-Some-pop.ensures.items) c.in_default-fit.is c.settled-q.result c.settled-q.ensures (reverse c.push.new.self.items) (on_top _ _ _ c.push.ensures.items);
 }
 
 pub make-requires : goal.make-requires
