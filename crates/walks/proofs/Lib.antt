@@ -3,8 +3,8 @@ pub mod Once
 pub mod Sum
 pub mod Three
 pub mod Whole
-pub mod Frames
 pub mod Turns
-pub mod Alone
 pub mod Ranged
 pub mod Squared
+pub mod Looked
+pub mod Frames

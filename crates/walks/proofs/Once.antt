@@ -1,11 +1,11 @@
 -- One question from its two settled ones.
-use Rattle.std.proofs.Common.{◌≡◌, ℕ, suc, ◌+◌, ◌-◌, ◌≤◌, min, Bool, true, false, List, ℤ, Some, sym, ◌∙◌, subst, add-one, arith}
+use Rattle.std.proofs.Common.{◌≡◌, ℕ, suc, ◌+◌, ◌-◌, ◌≤◌, min, true, false, List, ℤ, Some, sym, ◌∙◌, subst, add-one, arith}
 use Rattle.diagrams.specs.declared.Edge.{Edge}
 use Rattle.diagrams.specs.declared.Question.{Question}
 use Rattle.diagrams.specs.Nodes.{From}
 use Rattle.diagrams.specs.Apply.{Makes, Joined, Top, Open, Asked, Settled, Right, Answers}
 use Rattle.diagrams.proofs.Grow.{grown_on, asked_grown, right_grown, settled_grown, top_grown}
-use Rattle.diagrams.proofs.Settle.{ask_settled_lem, may_make, answered}
+use Rattle.diagrams.proofs.Settle.{may_make, answered}
 use Rattle.diagrams.proofs.Steps.{from_lower, asked_up, asked_constants, asked_small}
 use Rattle.tables.specs.declared.NodeTable.{NodeTable}
 use Rattle.walks.specs.Stack.{Opening}
@@ -52,12 +52,6 @@ module _ {parts : ℕ} {ts : List (List ℤ)} {t : NodeTable} {q : Question} {j 
 
   pub can_right : CanSettle t q.right j
   can_right = (parts, ts, o.table, o.asked.right_in, (asked_small parts (made t) ts j q o.asked).1)
-
-  pub first_asked : (x : Bool) (r : Question) → Settled (made t) j q x r → Asked parts (made t) ts (j + 1) r
-  first_asked x r s = next (λ i. Asked parts (made t) ts i r) j (ask_settled_lem parts (made t) j q o.top.low ts x r o.asked s)
-
-  pub later_asked : {t₁ : NodeTable} → Grew parts ts t t₁ → (x : Bool) (r : Question) → Settled (made t) j q x r → Asked parts (made t₁) ts (j + 1) r
-  later_asked g x r s = asked_grown parts o.table.sound g.grown ts (j + 1) r (first_asked x r s)
 
   module _ {q₁ q₀ : Question} (s₁ : Settled (made t) j q true q₁) (s₀ : Settled (made t) j q false q₀) {t₁ t₂ : NodeTable} (g₁ : Grew parts ts t t₁) (g₂ : Grew parts ts t₁ t₂) {fit out : Edge} (a₁ : Right parts (made t₁) q₁ fit) (a₀ : Right parts (made t₂) q₀ out) where
     g : Grew parts ts t t₂

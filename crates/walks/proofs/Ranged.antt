@@ -1,15 +1,14 @@
 -- Comparisons that the ranges of the sum decide on the walk.
-use Rattle.std.proofs.Common.{◌≡◌, ℕ, ◌-◌, ◌<◌, ◌≤◌, List, [], ◌∷◌, length, get_or, drop, ℤ, None, sym, subst, arith}
+use Rattle.std.proofs.Common.{ℕ, ◌-◌, ◌<◌, ◌≤◌, List, [], ◌∷◌, length, get_or, drop, ℤ, None, sym, subst, arith}
 use Rattle.limits.specs.Limits.{sum}
-use Rattle.diagrams.specs.declared.Child.TheVariants.{Place}
 use Rattle.diagrams.specs.declared.Edge.{Edge}
 use Rattle.diagrams.specs.declared.Question.{Question}
 use Rattle.diagrams.specs.Nodes.{From}
-use Rattle.diagrams.specs.Apply.{Right, Tail, Decides}
+use Rattle.diagrams.specs.Apply.{Right, Tail}
 use Rattle.diagrams.proofs.Steps.{asked_small}
 use Rattle.diagrams.proofs.Tail.{tail_up, tail_settled, tail_grown, decided}
 use Rattle.questions.specs.declared.Range.{Range}
-use Rattle.questions.specs.Ranges.{no_range, SmallRange}
+use Rattle.questions.specs.Ranges.{no_range}
 use Rattle.questions.proofs.Ranged.{Holds, range_holds, ranges_small}
 use Rattle.tables.specs.declared.NodeTable.{NodeTable}
 use Rattle.tables.specs.Places.{made, Table, part_at}
@@ -57,16 +56,3 @@ module _ {parts : ℕ} {ts : List (List ℤ)} {t₀ t : NodeTable} {root : Quest
       decided parts (made t) q e g.low g.high p (omega arith) here most
       (λ c k. subst (Holds g) (sym (tail b.decides.compares c k)) (subst (λ z. Holds z (sum (drop p r.ws) c)) (sym (r.each p (omega arith) (omega arith))) (range_holds r.ws (parts - p) p (omega arith) c (omega arith))))
       b.decides
-
-module _ {t : NodeTable} {rs : List Range} {q : Question} (c : CanLook t rs q) (k : ℕ) (place : q.left.child ≡ Place k) (p : ℕ) (is : p ≡ part_at (made t) q.left.child) where
-  pub look_low : p < c.parts
-  look_low = subst (λ z. z < c.parts) (sym is) (subst (λ z. part_at (made t) z < c.parts) (sym place) (part_low c.parts (made t) c.table.sound k (subst (From (made t) 0) place c.from)))
-
-  pub look_index : p < length rs
-  look_index = let l = look_low in let r = c.room in omega arith
-
-  pub look_small : SmallRange (get_or rs p no_range)
-  look_small = let l = look_low in c.small_ranges p (omega arith)
-
-  pub look_found : (e : Edge) → Decides q (get_or rs p no_range).low (get_or rs p no_range).high e → ByRange t rs q e
-  look_found e d = record { k = k; place = place; decides = subst (λ z. Decides q (get_or rs z no_range).low (get_or rs z no_range).high e) is d }

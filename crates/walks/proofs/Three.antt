@@ -4,21 +4,20 @@ use Rattle.std.proofs.lemmas.Int.{ints}
 use Rattle.diagrams.specs.declared.Edge.{Edge}
 use Rattle.diagrams.specs.declared.Operation.TheVariants as operation
 use Rattle.diagrams.specs.declared.Question.{Question}
-use Rattle.limits.specs.Limits.{sum, keeps}
+use Rattle.limits.specs.Limits.{sum}
 use Rattle.diagrams.specs.Nodes.{From, Sound}
-use Rattle.diagrams.specs.Apply.{meaning, edge_at, target, Fit, Bit, Right, Asked, Allows, Sums, question, Grown}
+use Rattle.diagrams.specs.Apply.{operation_of, meaning, edge_at, target, Fit, Bit, Right, Asked, Allows, Sums, question, Grown}
 use Rattle.diagrams.proofs.Steps.{allows_ext, bit_meaning}
 use Rattle.diagrams.proofs.Settle.{edge_constant}
 use Rattle.diagrams.proofs.Reached.{cover}
 use Rattle.diagrams.proofs.Tables.{in_either}
-use Rattle.diagrams.specs.Needs.{needed, indicator}
+use Rattle.diagrams.specs.Needs.{needed}
 use Rattle.diagrams.proofs.Grow.{from_grown, edge_grown, grown_on}
 use Rattle.tables.specs.declared.NodeTable.{NodeTable}
 use Rattle.limits.specs.declared.Limit.{Limit}
 use Rattle.tables.specs.Places.{made, Grew}
 use Rattle.walks.specs.Walked.{Walked}
 use Rattle.questions.specs.Bounds.{bound_edge, kept_question}
-use Rattle.diagrams.specs.Apply.{operation_of}
 use Rattle.questions.proofs.Bounded.{fit_sense, meaning_kept}
 use Rattle.walks.specs.Extended.{kept, times, Begins, Builds, Denotes, Built}
 use Rattle.walks.proofs.Once.{grew_on}
@@ -36,9 +35,6 @@ sum_small : (ws : List ℤ) (c : List Bool) → ((i : ℕ) → nat_abs (get_or w
 sum_small [] c h = omega arith
 sum_small (a ∷ ws) [] h = omega arith
 sum_small (a ∷ ws) (x ∷ c) h = term_small x a (sum ws c) (length c) (h 0) (sum_small ws c (λ i. h (suc i)))
-
-pub kept_keeps : (l : Limit) (c : List Bool) → kept l c ≡ indicator (keeps l c)
-kept_keeps l c = refl
 
 module _ (parts : ℕ) (t : NodeTable) (product : Edge) (l : Limit) (b : Begins parts t product l) where
   kept_fit : (c : List Bool) → length c ≡ parts → Fit (operation_of l.sense) (sum l.coefficients c) l.bound

@@ -1,23 +1,21 @@
 -- The turns of the walk.
-use Rattle.std.proofs.Common.{◌≡◌, ℕ, zero, suc, ◌+◌, ◌-◌, ◌<◌, ◌≤◌, min, Bool, true, false, ◌⊎◌, List, [], ◌∷◌, length, ℤ, IfSome, Some, None, Option, sym, refl, ap, subst, ⊎_elim, arith}
+use Rattle.std.proofs.Common.{◌≡◌, ℕ, zero, suc, ◌+◌, ◌-◌, ◌<◌, ◌≤◌, min, Bool, true, false, ◌⊎◌, List, [], ◌∷◌, length, ℤ, IfSome, Some, None, Option, sym, subst, ⊎_elim, arith}
+use Rattle.std.specs.Option.{is_some}
 use Rattle.diagrams.specs.declared.Edge.{Edge}
 use Rattle.diagrams.specs.declared.Question.{Question}
-use Rattle.diagrams.specs.Apply.{Asked, Settled, Right, Answers, Open, Makes}
+use Rattle.diagrams.specs.Apply.{Settled, Right, Answers, Open, Makes}
 use Rattle.diagrams.proofs.Grow.{asked_grown, right_grown, settled_grown, top_grown}
 use Rattle.diagrams.proofs.Settle.{ask_settled_lem}
 use Rattle.tables.specs.declared.NodeTable.{NodeTable}
 use Rattle.walks.specs.declared.Frame.{Frame}
-use Rattle.tables.specs.Places.{made, Grew, Table, part_at, Made}
+use Rattle.tables.specs.Places.{made, Grew, part_at, Made}
 use Rattle.walks.specs.Walked.{Walked}
 use Rattle.walks.specs.Stack.{Opening, new_frame}
-use Rattle.walks.proofs.Paths.{level, awaits, FitHeld, Path, Walking, cost, rest, rests, left_to_do}
+use Rattle.walks.proofs.Paths.{level, awaits, FitHeld, Path, Walking, cost, left_to_do}
 use Rattle.questions.specs.Products.{Squares}
 use Rattle.tables.proofs.Tables.{grew_none}
 use Rattle.walks.proofs.Squared.{squared}
 use Rattle.walks.proofs.Once.{table_of, grew_on, opening, asked_from, makes, finish}
-
-pub start : (parts : ℕ) (ts : List (List ℤ)) (t : NodeTable) (root : Question) (fs : List Frame) → fs ≡ [] → Table parts ts t → Asked parts (made t) ts 0 root → Walking parts ts t t root fs root None
-start parts ts t root fs e table a = subst (λ z. Walking parts ts t t root z root None) (sym e) (record { grew = grew_none parts ts t table; path = refl; state = a })
 
 level_deep : (parts : ℕ) (ts : List (List ℤ)) (t : NodeTable) (root : Question) (fs : List Frame) (q : Question) → Path parts ts t root fs q → length fs ≤ level fs
 level_deep parts ts t root [] q p = omega arith
@@ -120,11 +118,6 @@ module _ {parts : ℕ} {ts : List (List ℤ)} {t₀ t : NodeTable} {root : Quest
       pub turn_full : (t' : NodeTable) → Made parts ts t t' f.part fit e None → Walked parts ts t₀ t' root None
       turn_full t' m = record { grew = grew_on w.grew m.grew; answer = m.edge }
 
--- what is left to do falls
-cost_some : (r : ℕ) → 1 ≤ cost r
-cost_some zero = omega arith
-cost_some (suc r) = omega arith
-
 cost_more : (d r : ℕ) → cost r ≤ cost (d + r)
 cost_more zero r = subst (λ z. cost r ≤ cost z) (omega_zero r) (omega arith)
   where
@@ -132,31 +125,24 @@ cost_more zero r = subst (λ z. cost r ≤ cost z) (omega_zero r) (omega arith)
     omega_zero r = omega arith
 cost_more (suc d) r = let h = cost_more d r in let e : suc (d + r) ≡ suc d + r = omega arith in subst (λ z. cost r ≤ cost z) e (omega arith)
 
+cost_pos : (r : ℕ) → 0 < cost r
+cost_pos zero = omega arith
+cost_pos (suc r) = omega arith
+
 cost_mono : (a b : ℕ) → a ≤ b → cost a ≤ cost b
 cost_mono a b h = let e : (b - a) + a ≡ b = omega arith in subst (λ z. cost a ≤ cost z) e (cost_more (b - a) a)
-
-pub falls_known : (parts : ℕ) (fs : List Frame) (e : Edge) → left_to_do parts fs (Some e) < left_to_do parts fs None
-falls_known parts fs e = let c = cost_some (parts - level fs) in omega arith
 
 pub falls_open : (parts : ℕ) (fs gs : List Frame) (q : Question) (j : ℕ) → gs ≡ new_frame q j None ∷ fs → level fs ≤ j → j < parts → left_to_do parts gs None < left_to_do parts fs None
 falls_open parts fs gs q j e above low =
     let h : cost (suc (parts - suc j)) ≤ cost (parts - level fs) = cost_mono (suc (parts - suc j)) (parts - level fs) (omega arith) in
     subst (λ z. left_to_do parts z None < left_to_do parts fs None) (sym e) (omega arith)
 
-pub falls_second : (parts : ℕ) (all fs gs : List Frame) (f : Frame) (d e : Edge) → all ≡ f ∷ fs → f.fit ≡ None → gs ≡ new_frame f.question f.part (Some e) ∷ fs → left_to_do parts gs None < left_to_do parts all (Some d)
-falls_second parts all fs gs f d e n none is =
-    let r : rest parts f ≡ 2 + cost (parts - suc f.part) = ap (λ m. elim m [ None ↦ 2 + cost (parts - suc f.part) | Some x ↦ 1 ]) none in
-    let a : rests parts all ≡ rest parts f + rests parts fs = ap (rests parts) n in
-    subst (λ z. left_to_do parts z None < left_to_do parts all (Some d)) (sym is) (omega arith)
-
-pub falls_made : (parts : ℕ) (all fs : List Frame) (f : Frame) (d e fit : Edge) → all ≡ f ∷ fs → f.fit ≡ Some fit → left_to_do parts fs (Some e) < left_to_do parts all (Some d)
-falls_made parts all fs f d e fit n some =
-    let r : rest parts f ≡ 1 = ap (λ m. elim m [ None ↦ 2 + cost (parts - suc f.part) | Some x ↦ 1 ]) some in
-    let a : rests parts all ≡ rest parts f + rests parts fs = ap (rests parts) n in
-    omega arith
-
 pub in_state : {parts : ℕ} {ts : List (List ℤ)} {t₀ t : NodeTable} {root : Question} {fs : List Frame} {q : Question} {a b : Option Edge} → Walking parts ts t₀ t root fs q a → a ≡ b → Walking parts ts t₀ t root fs q b
 in_state {parts} {ts} {t₀} {t} {root} {fs} {q} w e = subst (Walking parts ts t₀ t root fs q) e w
 
 pub falls_in : (parts : ℕ) (fs gs : List Frame) (a b a' b' : Option Edge) → a ≡ a' → b ≡ b' → left_to_do parts gs b' < left_to_do parts fs a' → left_to_do parts gs b < left_to_do parts fs a
 falls_in parts fs gs a b a' b' p q h = subst (λ z. left_to_do parts gs z < left_to_do parts fs a) (sym q) (subst (λ z. left_to_do parts gs b' < left_to_do parts fs z) (sym p) h)
+
+pub falls_found : (parts : ℕ) (fs : List Frame) (a b : Option Edge) → a ≡ None → is_some b ≡ true → left_to_do parts fs b < left_to_do parts fs a
+falls_found parts fs a None e h = cc
+falls_found parts fs a (Some x) e h = subst (λ z. left_to_do parts fs (Some x) < left_to_do parts fs z) (sym e) (let p = cost_pos (parts - level fs) in omega arith)

@@ -1,8 +1,8 @@
 -- The table after one limit more.
-use Rattle.std.proofs.Common.{◌≡◌, ℕ, zero, suc, ◌+◌, ◌-◌, ◌≤◌, List, [], ◌∷◌, ◌++◌, length, take, ℤ, Some, None, Option, sym, refl, ap, ◌∙◌, subst, inl, inr, ⊎_elim, add-zero, zero-add, arith, length-append, take_all}
+use Rattle.std.proofs.Common.{◌≡◌, ℕ, zero, suc, ◌+◌, ◌-◌, ◌≤◌, List, [], ◌∷◌, ◌++◌, length, take, ℤ, true, false, Some, None, Option, MatchOption, sym, refl, ap, ◌∙◌, subst, inl, inr, ⊎_elim, add-zero, zero-add, arith, length-append, take_all}
 use lib.Seq.{take-append-le}
 use Rattle.std.specs.List.{slice_get}
-use Rattle.std.proofs.lemmas.Option.{slice_get_within}
+use Rattle.std.specs.Option.{is_some}
 use Rattle.diagrams.specs.declared.Child.TheVariants.{Place}
 use Rattle.diagrams.specs.declared.Node.{Node}
 use Rattle.diagrams.specs.declared.Edge.{Edge}
@@ -17,6 +17,7 @@ use Rattle.tables.specs.declared.NodeTable.{NodeTable}
 use Rattle.limits.specs.declared.Limit.{Limit}
 use Rattle.tables.specs.Places.{made, room}
 use Rattle.walks.specs.Extended.{kept, Builds, Built, tables_from, limit_needs, all_needs, SoundTable, Extended, Refused, HasNode}
+use Rattle.std.proofs.lemmas.Option.{slice_get_within}
 use Rattle.tables.proofs.Tables.{made_length}
 
 in_tables : (parts : ℕ) (ns : List Node) (k j : ℕ) (rest : List Node) (n : Node) → slice_get rest j ≡ Some n → In (node_table parts ns (k + j) n) (tables_from parts ns k rest)
@@ -44,7 +45,7 @@ module _ (parts : ℕ) (t : NodeTable) (product : Edge) (l : Limit) (s : SoundTa
     products = λ u h. in_right u (tables_from parts (made t) 0 (made t)) _ (in_right u (needed parts (sum l.coefficients)) _ (in_right u (needed parts (kept l)) _ h));
   }
 
-  pub extended : (t' : NodeTable) (e : Edge) → Built parts (all_needs parts t product l) t t' product l (Some e) → Extended parts t t' product l e
+  extended : (t' : NodeTable) (e : Edge) → Built parts (all_needs parts t product l) t t' product l (Some e) → Extended parts t t' product l e
   extended t' e b = record {
     table = record { sound = b.grew.good.sound; ordered = b.grew.good.ordered; small = b.grew.good.small };
     places = b.grew.places;
@@ -81,7 +82,7 @@ module _ (parts : ℕ) (t : NodeTable) (product : Edge) (l : Limit) (s : SoundTa
           let z : k ≡ j = node_once parts (made t') b.grew.good.sound k j n q f g e' in
           omega arith
 
-  pub refused : (t' t'' : NodeTable) → Built parts (all_needs parts t product l) t t' product l None → room t'' ≡ room t' → made t'' ≡ take t.used (made t') → Refused parts t t'' product l
+  refused : (t' t'' : NodeTable) → Built parts (all_needs parts t product l) t t' product l None → room t'' ≡ room t' → made t'' ≡ take t.used (made t') → Refused parts t t'' product l
   refused t' t'' b places is =
       let g = b.grew.grown in
       let n = made_length t in
@@ -93,6 +94,15 @@ module _ (parts : ℕ) (t : NodeTable) (product : Edge) (l : Limit) (s : SoundTa
         same = is ∙ (ap (take t.used) g.is ∙ back);
         more_needed = omega arith;
       }
+
+  -- what build leaves stays where it answers an edge, and is cut back where it answers none
+  pub stays : (t' : NodeTable) (r : Option Edge) → is_some r ≡ true → Built parts (all_needs parts t product l) t t' product l r → MatchOption r (Refused parts t t' product l) (λ e. Extended parts t t' product l e)
+  stays t' None h b = cc
+  stays t' (Some e) h b = extended t' e b
+
+  pub cut_back : (t' t'' : NodeTable) (r : Option Edge) → is_some r ≡ false → Built parts (all_needs parts t product l) t t' product l r → room t'' ≡ room t' → made t'' ≡ take t.used (made t') → MatchOption r (Refused parts t t'' product l) (λ e. Extended parts t t'' product l e)
+  cut_back t' t'' None h b places is = refused t' t'' b places is
+  cut_back t' t'' (Some e) h b places is = cc
 
   pub used_grows : (t' : NodeTable) (r : Option Edge) → Built parts (all_needs parts t product l) t t' product l r → t.used ≤ t'.used
   used_grows t' r b =

@@ -1,22 +1,23 @@
 //! The walk over the diagrams that makes one limit more part of a product.
 #![tactic(auto)]
 
-ghost use Rattle.std.specs.Prelude.{◌≡◌, ℕ, ◌^◌, ◌<◌, ◌≤◌, min, ◌⊎◌, List, [], ◌∷◌, length, ℤ, pos, IfSome, MatchOption, slice_index_or, unsigned_abs};
+ghost use Rattle.std.specs.Prelude.{◌≡◌, ℕ, ◌≤◌, min, ◌⊎◌, List, ℤ, IfSome, MatchOption};
 ghost use Rattle.limits.specs.Limits.{sum};
 ghost use Rattle.diagrams.specs.Nodes.{From};
-ghost use Rattle.diagrams.specs.Apply.{Answers, Open, Asked, AllRight, Settled, plus_edge, Allows};
+ghost use Rattle.diagrams.specs.Apply.{Answers, Open, Asked, AllRight, Settled, Allows};
 ghost use Rattle.questions.specs.Products.{Squares};
 ghost use Rattle.tables.specs.Chains.{made};
 ghost use Rattle.tables.specs.Places.{Table, part_at, CanSettle};
 ghost use Rattle.walks.specs.Extended.{Begins, Builds, CanBuild, Built, SoundTable, Extended, Refused};
-ghost use Rattle.walks.specs.Stack.{frames_of, Went, CanOpen};
+ghost use Rattle.walks.specs.Stack.{Went, CanOpen};
 ghost use Rattle.walks.specs.Looks.{Ranged, CanLook, ByRange};
 ghost use Rattle.walks.specs.Walked.{CanAsk, Walked, CanSum, Summed};
 
+use arrayvec::ArrayVec;
 use diagrams::{Child, Edge, Operation, Question};
 use limits::Limit;
 use memories::Memory;
-use questions::{Range, constant, decide, ranges_of, shortcut, square, within_bound};
+use questions::{Range, decide, ranges_of, shortcut, square, within_bound};
 use tables::NodeTable;
 
 // The least part of the question's nodes.
@@ -24,21 +25,9 @@ fn top(table: &NodeTable, q: Question) -> u8
     requires { (From (made table.now) 0 q.left.child) × (From (made table.now) 0 q.right.child) }
     ensures { result ≡ min (part_at (made table.now) q.left.child) (part_at (made table.now) q.right.child) }
 {
-    let a = table.part_of(q.left.child);
-    let b = table.part_of(q.right.child);
-    if a < b { a } else { b }
-}
-
-// The question that is left when a part is settled.
-fn ask_settled(table: &NodeTable, q: Question, part: u8, fitted: bool) -> Question
-    requires { (CanSettle table.now q.left part) × (CanSettle table.now q.right part) }
-    ensures { Settled (made table.now) part q fitted result }
-{
-    Question {
-        operation: q.operation,
-        left: table.settle(q.left, part, fitted),
-        right: table.settle(q.right, part, fitted),
-    }
+    table
+        .part_of(q.left.child)
+        .min(table.part_of(q.right.child))
 }
 
 // The answer where the range of what is left of the sum decides the comparison.
@@ -48,77 +37,44 @@ fn by_range(table: &NodeTable, ranges: &[Range], q: Question) -> Option<Edge>
 {
     match q.left.child {
         Child::Terminal => None,
-        Child::Place(_) => {
-            let part = table.part_of(q.left.child);
-            decide(q, ranges[part as usize])
-        }
+        Child::Place(_) => decide(q, ranges[table.part_of(q.left.child) as usize]),
     }
 }
 
 // An open question: the answer with its part fitted, once it is there, is in fit.
-#[derive(Clone, Copy, Drop)]
+#[derive(Clone, Copy, Default, Drop)]
 struct Frame {
     question: Question,
     part: u8,
     fit: Option<Edge>,
 }
 
-// The open questions, the newest at depth - 1.
-#[derive(Drop)]
-struct Stack {
-    frames: [Frame; 48],
-    depth: usize,
-}
-
-impl Stack {
-    fn empty(q: Question) -> Stack
-        ensures none { frames_of result ≡ [] }
-        ensures fits { result.depth ≤ 48 }
+impl Frame {
+    // The question that is left when the part is settled.
+    fn settled(self, table: &NodeTable, fitted: bool) -> Question
+        requires { (CanSettle table.now self.question.left self.part) × (CanSettle table.now self.question.right self.part) }
+        ensures { Settled (made table.now) self.part self.question fitted result }
     {
-        let f = Frame {
-            question: q,
-            part: 0,
-            fit: None,
-        };
-        Stack {
-            frames: [f; 48],
-            depth: 0,
+        Question {
+            operation: self.question.operation,
+            left: table.settle(self.question.left, self.part, fitted),
+            right: table.settle(self.question.right, self.part, fitted),
         }
-    }
-
-    fn push(&mut self, f: Frame)
-        requires { self.old.depth < 48 }
-        ensures frames { frames_of self.new ≡ f ∷ frames_of self.old }
-        ensures fits { self.new.depth ≤ 48 }
-    {
-        self.frames[self.depth] = f;
-        self.depth += 1;
-    }
-
-    fn pop(&mut self) -> Option<Frame>
-        requires { self.old.depth ≤ 48 }
-        ensures { MatchOption result (frames_of self.old ≡ []) (λ f. (frames_of self.old ≡ f ∷ frames_of self.new) × (self.new.depth < 48)) }
-    {
-        if self.depth == 0 {
-            return None;
-        }
-        self.depth -= 1;
-        Some(self.frames[self.depth])
     }
 }
 
 // Opens q: the question with its least part fitted is asked next.
-fn open_question(table: &NodeTable, stack: &mut Stack, q: Question) -> Question
-    requires { CanOpen table.now stack.old q }
-    ensures { Went table.now q stack.old stack.new result }
+fn open_question(table: &NodeTable, stack: &mut ArrayVec<Frame, 48>, q: Question) -> Question
+    requires { CanOpen table.now stack.old.items q }
+    ensures { Went table.now q stack.old.items stack.new.items result }
 {
-    let part = top(table, q);
-    stack.push(Frame {
+    let opened = Frame {
         question: q,
-        part,
+        part: top(table, q),
         fit: None,
-    });
-    ask_settled(table, q, part, true)
+    };
+    stack.push(opened);
+    opened.settled(table, true)
 }
 
 // The answer where the question itself or the ranges settle it, or the one that is remembered.
@@ -126,6 +82,7 @@ fn look_up<M: Memory>(table: &NodeTable, ranges: &[Range], q: Question, memory: 
     requires { CanLook table.now ranges.now q }
     ensures { MatchOption result (Open q) (λ e. Answers q e ⊎ (Squares q e ⊎ (M.holds memory.now q e ⊎ ByRange table.now ranges.now q e))) }
 {
+    // Not a chain of `or_else`: a closure around `by_range`, which asks for `CanLook`, proves nothing of its result.
     if let Some(e) = shortcut(q) {
         return Some(e);
     }
@@ -153,18 +110,14 @@ fn walk<M: Memory>(
     ensures done { (ts : List (List ℤ)) → Table parts ts table.old → Asked parts (made table.old) ts 0 root → Walked parts ts table.old table.new root result }
     ensures right { AllRight M.holds memory.new parts (made table.new) }
 {
-    let mut stack = Stack::empty(root);
+    let mut stack: ArrayVec<Frame, 48> = ArrayVec::new();
     let mut q = root;
     let mut answer: Option<Edge> = None;
     loop {
         let Some(e) = answer else {
-            match look_up(table, ranges, q, memory) {
-                Some(e) => {
-                    answer = Some(e);
-                }
-                None => {
-                    q = open_question(table, &mut stack, q);
-                }
+            answer = look_up(table, ranges, q, memory);
+            if answer.is_none() {
+                q = open_question(table, &mut stack, q);
             }
             continue;
         };
@@ -172,12 +125,8 @@ fn walk<M: Memory>(
             return Some(e);
         };
         let Some(fit) = f.fit else {
-            q = ask_settled(table, f.question, f.part, false);
-            stack.push(Frame {
-                question: f.question,
-                part: f.part,
-                fit: Some(e),
-            });
+            q = f.settled(table, false);
+            stack.push(Frame { fit: Some(e), ..f });
             answer = None;
             continue;
         };
@@ -188,28 +137,15 @@ fn walk<M: Memory>(
     }
 }
 
-// The edge with a coefficient added.
-fn plus(e: Edge, coefficients: &[i32], i: u8) -> Edge
-    requires { (unsigned_abs e.constant ≤ 2 ^ 28) × ((i < length coefficients.now) × (unsigned_abs (slice_index_or coefficients.now i (pos 0)) ≤ 1000000)) }
-    ensures { result ≡ plus_edge e (slice_index_or coefficients.now i (pos 0)) }
-{
-    Edge {
-        constant: e.constant + coefficients[i as usize],
-        child: e.child,
-    }
-}
-
 // The sum, without a bound.
 fn chain(table: &mut NodeTable, parts: u8, coefficients: &[i32]) -> Option<Edge>
     requires { CanSum parts table.old coefficients.now }
     ensures { (ts : List (List ℤ)) → Table parts ts table.old → Allows ts parts (sum coefficients.now) → Summed parts ts table.old table.new coefficients.now result }
 {
-    let mut e = constant(false);
-    let mut i = parts;
-    while i > 0 {
-        i -= 1;
-        let fit = plus(e, coefficients, i);
-        e = table.make(i, fit, e)?;
+    let mut e = Edge::constant(0);
+    for part in (0..parts).rev() {
+        let fit = e.plus(coefficients[part as usize]);
+        e = table.make(part, fit, e)?;
     }
     Some(e)
 }
@@ -251,11 +187,9 @@ pub fn extend<M: Memory>(
     ensures { MatchOption result (Refused parts table.old table.new product limit.now) (λ e. Extended parts table.old table.new product limit.now e) }
 {
     let before = table.used();
-    match build(table, parts, product, limit, memory) {
-        Some(e) => Some(e),
-        None => {
-            table.truncate(before);
-            None
-        }
+    let extended = build(table, parts, product, limit, memory);
+    if extended.is_none() {
+        table.truncate(before);
     }
+    extended
 }

@@ -5,8 +5,5 @@ use Rattle.tables.specs.Places.{Table}
 use Rattle.walks.proofs.Paths.{Summing}
 use Rattle.walks.proofs.chain.Given as goal
 
-abbrev pub invariant-loop-i : goal.invariant-loop-i
-invariant-loop-i l = (ts : List (List ℤ)) → Table l.parts ts l.initial.table → Allows ts l.parts (sum l.coefficients) → Summing l.parts ts l.initial.table l.table l.coefficients l.i l.e
-
-abbrev pub decreases-loop-i : goal.decreases-loop-i
-decreases-loop-i l = l.i
+abbrev pub invariant-loop-part : goal.invariant-loop-part
+invariant-loop-part l = (ts : List (List ℤ)) → Table l.parts ts l.initial.table → Allows ts l.parts (sum l.coefficients) → Summing l.parts ts l.initial.table l.table l.coefficients l.part l.e
