@@ -1,12 +1,10 @@
 -- The best grade, part by part over the diagram.
-use Rattle.std.proofs.Common.{◌≡◌, ℕ, suc, ◌+◌, ◌-◌, ◌*◌, ◌<◌, ◌≤◌, Bool, true, false, cond, List, [], ◌∷◌, map, length, get_or, drop, set, pos, ◌+ℤ◌, Some, None, Option, sym, refl, ap, ◌∙◌, subst, ap₂, ⊎_elim, add-one, arith}
+use Rattle.std.proofs.Common.{◌≡◌, ℕ, suc, ◌+◌, ◌-◌, ◌*◌, ◌<◌, ◌≤◌, Bool, true, false, cond, List, [], ◌∷◌, map, length, get_or, drop, pos, ◌+ℤ◌, Some, None, Option, sym, refl, ap, ◌∙◌, subst, ap₂, add-one, arith}
 use mathlib.Core.Path.{fun_ext}
 use lib.IntN.{+ℤ_assoc}
 use Rattle.std.specs.List.{slice_get, AllByRecursion}
-use Rattle.std.proofs.lemmas.Bool.{cases_eq}
-use Rattle.std.specs.Option.{option_map}
-use Rattle.std.proofs.lemmas.Option.{slice_get_within, slice_get-map, slice_get_read, get_or_from_slice_get}
-use Rattle.std.proofs.lemmas.List.{drop_all, drop_more, get_or-map, length-map, length-drop, get_or_default, get_or-set_same, get_or-set_other}
+use Rattle.std.proofs.lemmas.Option.{slice_get_within, get_or_from_slice_get}
+use Rattle.std.proofs.lemmas.List.{drop_more, get_or-map, length-map, length-drop, get_or_default}
 use Rattle.std.proofs.ByRecursion.{All-drop, All-get_or}
 use Rattle.grades.specs.Laws.{Kind, Laws}
 use Rattle.grades.specs.Rule.{best, better, put_on, left_out}
@@ -15,10 +13,10 @@ use Rattle.diagrams.specs.Needs.{same, indicator}
 use Rattle.diagrams.specs.Nodes.{here, value, Under, Ordered}
 use Rattle.diagrams.specs.declared.Node.{Node}
 use Rattle.diagrams.specs.declared.Child.{Child}
-use Rattle.diagrams.specs.declared.Child.TheVariants.{Terminal, Place}
+use Rattle.diagrams.specs.declared.Child.TheVariants.{Place}
 use Rattle.diagrams.proofs.Canonical.{value_skip, value_fit, value_leave}
 use Rattle.rows.specs.Ones.{ones, Bits, BitsOf}
-use Rattle.rows.specs.Bests.{mapped, better_of, Put, Weighed, no_row, row_at, IsBest, RightRows, Tells, Lifts, Tops, NodeBest, RowBest}
+use Rattle.rows.specs.Bests.{mapped, better_of, Put, Weighed, no_row, row_at, IsBest, Tells, Lifts, Tops, NodeBest, RowBest}
 use Rattle.rows.specs.declared.Row.{Row}
 use Rattle.rows.specs.declared.Top.{Top}
 use Rattle.rows.proofs.Values.{under_down, stands_place, skips_at, above_at, bits_to, bits_fit, bits_leave, bit_of}
@@ -26,10 +24,6 @@ use Rattle.rows.proofs.Values.{under_down, stands_place, skips_at, above_at, bit
 -- what is left of a list from an element on
 pub drop_nth : {X : Type 0} (xs : List X) (j : ℕ) (x : X) → slice_get xs j ≡ Some x → drop j xs ≡ x ∷ drop (suc j) xs
 drop_nth xs j x e = drop_more xs j x (slice_get_within xs j x e) ∙ ap₂ (λ y n. y ∷ drop n xs) (get_or_from_slice_get xs j x x e) (add-one j)
-
--- a weight's grade is read off the weights
-pub nth_map : {X Y : Type 0} (f : X → Y) (xs : List X) (i : ℕ) (x : X) (y : Y) → i < length xs → x ≡ get_or xs i x → y ≡ f x → slice_get (map f xs) i ≡ Some y
-nth_map f xs i x y h e g = slice_get-map f xs i ∙ (ap (option_map f) (slice_get_read xs (length xs) i x refl h e) ∙ ap Some (sym g))
 
 -- what holds of each meaning holds of the one read
 pub all_map_at : {X Y : Type 0} (P : Y → Type 0) (f : X → Y) (xs : List X) (i : ℕ) (x : X) → i < length xs → x ≡ get_or xs i x → AllByRecursion P (map f xs) → P (f x)
@@ -117,22 +111,6 @@ module _ {V G : Type 0} {k : Kind V} (laws : Laws k) (means : G → V) where
       ∙ lift vs weighed (j - 1) v read ns b s o with_it (skip (j - 1) (omega arith)) (subst (λ m. IsBest k means vs ns m b s o) e (before ns b s skip at_first)) put
 
   module _ (vs : List V) (ns : List Node) (rows : List (Row G)) where
-    -- at the terminal no part is left
-    pub tops_terminal : (b : Bool) (r : Child) (len : ℕ) (o : Option G) → len ≡ length vs → r ≡ Terminal → mapped means o ≡ cond b (Some k.empty) None → Tops k means vs ns rows b r (record { part = len; best = o })
-    tops_terminal b r len o size er is =
-        let none : drop len vs ≡ [] = drop_all len vs (omega arith) in
-        let passes : ones ns len b r [] ≡ b = ap (λ s. ones ns len b s []) er ∙ one_or_not b in
-        record {
-          part = omega arith;
-          above = λ i lim u h. omega arith;
-          skips = λ j h. ap (here ns j) er;
-          tells = λ lim right u bits. is ∙ (sym (ap (λ x. cond x (Some k.empty) None) passes) ∙ sym (ap (λ us. best k us (ones ns len b r)) none));
-        }
-      where
-        one_or_not : (x : Bool) → same (indicator x +ℤ pos 0) (pos 1) ≡ x
-        one_or_not true = refl
-        one_or_not false = refl
-
     -- at a node its row is read
     pub tops_place : (b : Bool) (r : Child) (kk : ℕ) (n : Node) (row : Row G) (o : Option G) → Ordered (length vs) ns → r ≡ Place kk → slice_get ns kk ≡ Some n → row ≡ get_or rows kk row → kk < length rows → o ≡ row_at row b → Tops k means vs ns rows b r (record { part = n.part; best = o })
     tops_place b r kk n row o ordered er en read inside is = record {
@@ -183,16 +161,3 @@ module _ {V G : Type 0} {k : Kind V} (laws : Laws k) (means : G → V) where
       both : (x : Bool) → NodeBest k means vs ns rows n x (row_at row x)
       both true = ho
       both false = hz
-
-  -- one row more is right
-  pub fill_step : (vs : List V) (ns : List Node) (rows read more : List (Row G)) (kk : ℕ) (row : Row G) → read ≡ rows → kk < length rows → more ≡ set rows kk row → RowBest k means vs ns read kk row → RightRows k means vs ns rows kk → RightRows k means vs ns more (kk + 1)
-  fill_step vs ns rows read more kk row same_rows inside is best-row right j m b low em bits = ⊎_elim at_this before (cases_eq j kk)
-    where
-      before : (j ≡ kk → ⊥) → IsBest k means vs ns m.part b (Place j) (row_at (get_or more j no_row) b)
-      before ne = ap (λ (x : Row G). mapped means (row_at x b)) (ap (λ rs. get_or rs j no_row) is ∙ get_or-set_other rows kk j row no_row ne) ∙ right j m b (omega arith) em bits
-
-      at_this : j ≡ kk → IsBest k means vs ns m.part b (Place j) (row_at (get_or more j no_row) b)
-      at_this e =
-          let read-it : get_or more j no_row ≡ row = ap₂ (λ rs i. get_or rs i no_row) is e ∙ get_or-set_same rows kk row no_row inside in
-          let right-now : RightRows k means vs ns read j = subst (λ rs. RightRows k means vs ns rs j) (sym same_rows) (subst (λ i. RightRows k means vs ns rows i) (sym e) right) in
-          ap (λ (x : Row G). mapped means (row_at x b)) read-it ∙ best-row m b (ap (slice_get ns) (sym e) ∙ em) j em right-now bits

@@ -11,7 +11,7 @@ use Rattle.diagrams.specs.declared.Question.{Question}
 use Rattle.diagrams.specs.Nodes.{From, Sound}
 use Rattle.diagrams.specs.Apply.{edge_at, Good, Grown, Makes, Joined, node_of, Top, Open, Fit, edge_to}
 use Rattle.diagrams.proofs.Canonical.{canonical}
-use Rattle.diagrams.proofs.Grow.{grown_none, joined_same, joined_at, good_new, joined_new, one_more}
+use Rattle.diagrams.proofs.Grow.{grown_none, joined_at, good_new, joined_new, one_more}
 use Rattle.diagrams.proofs.Steps.{from_lower}
 use Rattle.tables.specs.declared.NodeTable.{NodeTable}
 use Rattle.tables.specs.Buckets.{none, node_at}
@@ -39,9 +39,6 @@ module _ (t : NodeTable) where
   place_below i k r e f =
       let g : From (made t) i (Place k) = subst (From (made t) i) e f in
       omega (arith, slice_get_within (made t) k g.0 g.1, made_length)
-
-  pub index_below : (i k : ℕ) (r : Child) → r ≡ Place k → From (made t) i r → k < length t.places.now
-  index_below i k r e f = omega (arith, place_below i k r e f, used_below)
 
   pub node_found : (i k : ℕ) (r : Child) → r ≡ Place k → From (made t) i r → slice_get (made t) k ≡ Some (node_at t.places.now k)
   node_found i k r e f = nth_made k (place_below i k r e f)
@@ -88,9 +85,6 @@ pub grew_none : (parts : ℕ) (ts : List (List ℤ)) (t : NodeTable) → Table p
 grew_none parts ts t h = record { places = refl; grown = grown_none (made t); good = h }
 
 module _ (parts : ℕ) (ts : List (List ℤ)) (t : NodeTable) (table : Table parts ts t) (i : ℕ) (fit out : Edge) (m : Makes parts (made t) ts i fit out) where
-  pub make_same : fit ≡ out → Made parts ts t t i fit out (Some fit)
-  make_same e = record { grew = grew_none parts ts t table; edge = joined_same (made t) i fit out e m.fit_in }
-
   pub make_found : (k : ℕ) (n : Node) → node_of i fit out ≡ n → k < t.used → node_at t.places.now k ≡ n → (e : Edge) → edge_to out k ≡ e → Made parts ts t t i fit out (Some e)
   make_found k n en h f e ee = record {
     grew = grew_none parts ts t table;

@@ -47,16 +47,16 @@ pub struct NodeTable<'a> {
 
 // The bucket of a node.
 #[tactic(auto, unfolding(crate::specs::Buckets::hashed))]
-fn hash(n: Node, buckets: usize) -> usize
+fn hash(node: Node, buckets: usize) -> usize
     requires { 0 < buckets }
-    ensures is { result ≡ hashed buckets n }
+    ensures is { result ≡ hashed buckets node }
     ensures below { result < buckets }
 {
-    let value = n.value.unsigned_abs() as usize;
-    (n.left.number() * 97_787_311
-        + n.right.number() * 161_800_127
+    let value = node.value.unsigned_abs() as usize;
+    (node.left.number() * 97_787_311
+        + node.right.number() * 161_800_127
         + value * 57_721_583
-        + n.part as usize)
+        + node.part as usize)
         % buckets
 }
 
@@ -71,16 +71,16 @@ fn empty_buckets(places: &mut [Place])
 }
 
 // Puts a node into the first place that is not used, as the last one of its bucket.
-fn append(places: &mut [Place], used: usize, n: Node)
+fn append(places: &mut [Place], used: usize, node: Node)
     requires fits { PlacesFit places.old used }
     requires left { used < min (length places.old) 60000 }
     ensures fits { PlacesFit places.new (used + 1) }
     ensures length { length places.new ≡ length places.old }
-    ensures nodes { nodes_of (take (used + 1) places.new) ≡ nodes_of (take used places.old) ++ n ∷ [] }
+    ensures nodes { nodes_of (take (used + 1) places.new) ≡ nodes_of (take used places.old) ++ node ∷ [] }
 {
-    let bucket = hash(n, places.len());
+    let bucket = hash(node, places.len());
     places[used] = Place {
-        node: n,
+        node,
         next: places[bucket].head,
         ..places[used]
     };
@@ -133,16 +133,16 @@ impl<'a> NodeTable<'a> {
     }
 
     // The place of a node, if it stands.
-    fn find(&self, n: Node) -> Option<usize>
-        ensures { MatchOption result ((k : ℕ) → k < self.now.used → node_at self.now.places.now k ≢ n) (λ i. (i < self.now.used) × (node_at self.now.places.now i ≡ n)) }
+    fn find(&self, node: Node) -> Option<usize>
+        ensures { MatchOption result ((k : ℕ) → k < self.now.used → node_at self.now.places.now k ≢ node) (λ i. (i < self.now.used) × (node_at self.now.places.now i ≡ node)) }
     {
         if self.places.is_empty() {
             return None;
         }
-        let mut link = self.places[hash(n, self.places.len())].head as usize;
+        let mut link = self.places[hash(node, self.places.len())].head as usize;
         while let Some(k) = link.checked_sub(1) {
             let place = self.places[k];
-            if place.node == n {
+            if place.node == node {
                 return Some(k);
             }
             link = place.next as usize;
@@ -151,15 +151,15 @@ impl<'a> NodeTable<'a> {
     }
 
     // Puts a node into the next place, if there is one left.
-    fn push(&mut self, n: Node) -> Option<usize>
+    fn push(&mut self, node: Node) -> Option<usize>
         ensures places { room self.new ≡ room self.old }
-        ensures done { MatchOption result ((self.old.used ≡ room self.old) × (made self.new ≡ made self.old)) (λ i. (i ≡ self.old.used) × (i < 60000) × (made self.new ≡ made self.old ++ n ∷ [])) }
+        ensures done { MatchOption result ((self.old.used ≡ room self.old) × (made self.new ≡ made self.old)) (λ i. (i ≡ self.old.used) × (i < 60000) × (made self.new ≡ made self.old ++ node ∷ [])) }
     {
         let i = self.used;
         if i >= ROOM || i >= self.places.len() {
             return None;
         }
-        append(self.places, i, n);
+        append(self.places, i, node);
         self.used = i + 1;
         Some(i)
     }
@@ -192,11 +192,11 @@ impl<'a> NodeTable<'a> {
         if fit == out {
             return Some(fit);
         }
-        let n = node_of(part, fit, out);
-        if let Some(k) = self.find(n) {
+        let node = node_of(part, fit, out);
+        if let Some(k) = self.find(node) {
             return Some(edge_to(out, k));
         }
-        let k = self.push(n)?;
+        let k = self.push(node)?;
         Some(edge_to(out, k))
     }
 
@@ -220,21 +220,21 @@ impl<'a> NodeTable<'a> {
     }
 
     /// What is left of an edge when a part is settled.
-    pub fn settle(&self, e: Edge, part: u8, fitted: bool) -> Edge
-        requires { CanSettle self.now e part }
-        ensures { Cofactor (made self.now) part e fitted result }
+    pub fn settle(&self, edge: Edge, part: u8, fitted: bool) -> Edge
+        requires { CanSettle self.now edge part }
+        ensures { Cofactor (made self.now) part edge fitted result }
     {
-        let Child::Place(k) = e.child else {
-            return e;
+        let Child::Place(k) = edge.child else {
+            return edge;
         };
-        let n = self.places[k as usize].node;
-        if n.part != part {
-            return e;
+        let node = self.places[k as usize].node;
+        if node.part != part {
+            return edge;
         }
         if fitted {
-            fitted_edge(e, n)
+            fitted_edge(edge, node)
         } else {
-            left_out_edge(e, n)
+            left_out_edge(edge, node)
         }
     }
 }
@@ -263,23 +263,23 @@ fn edge_to(out: Edge, k: usize) -> Edge
     }
 }
 
-// What is left of an edge to n when its part is fitted.
-fn fitted_edge(e: Edge, n: Node) -> Edge
-    requires { (unsigned_abs e.constant ≤ 2 ^ 28) × (unsigned_abs n.value ≤ 2 ^ 29) }
-    ensures { result ≡ fitted_edge e n }
+// What is left of an edge to a node when its part is fitted.
+fn fitted_edge(edge: Edge, node: Node) -> Edge
+    requires { (unsigned_abs edge.constant ≤ 2 ^ 28) × (unsigned_abs node.value ≤ 2 ^ 29) }
+    ensures { result ≡ fitted_edge edge node }
 {
     Edge {
-        child: n.left,
-        ..e.plus(n.value)
+        child: node.left,
+        ..edge.plus(node.value)
     }
 }
 
-// What is left of an edge to n when its part is left out.
-fn left_out_edge(e: Edge, n: Node) -> Edge
-    ensures { result ≡ left_out_edge e n }
+// What is left of an edge to a node when its part is left out.
+fn left_out_edge(edge: Edge, node: Node) -> Edge
+    ensures { result ≡ left_out_edge edge node }
 {
     Edge {
-        child: n.right,
-        ..e
+        child: node.right,
+        ..edge
     }
 }

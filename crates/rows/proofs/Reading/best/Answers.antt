@@ -1,11 +1,7 @@
-use Rattle.std.proofs.Common.{map, length, arith}
+use Rattle.std.proofs.Common.{map, length}
 use Rattle.tables.specs.Chains.{made}
-use Rattle.rows.proofs.Values.{under_down}
 use Rattle.rows.proofs.Steps.{told}
 use Rattle.rows.proofs.Reading.best.Goals as goal
-
-pub top-part-requires : goal.top-part-requires
-top-part-requires g c = under_down (made c.args.self.now.table.now) c.args.i 0 (length c.args.self.now.rows.now) c.args.edge.child (omega arith) c.requires.under
 
 pub lifted-requires : goal.lifted-requires
 lifted-requires g c = record {

@@ -2,9 +2,6 @@ use Rattle.std.proofs.Common.{map, arith}
 use Rattle.rows.proofs.Steps.{lift_step}
 use Rattle.rows.proofs.Reading.lifted.Goals as goal
 
-pub grade_at-weight-requires : goal.grade_at-weight-requires
-grade_at-weight-requires g c = omega (arith, c.requires.low)
-
 pub loop-j-preserved : goal.loop-j-preserved
 loop-j-preserved g c = (
   omega arith,
