@@ -1,14 +1,15 @@
 -- What the types of the code mean.
-use Rattle.std.specs.Prelude.{◌≡◌, ℕ, ◌+◌, ◌-◌, ◌<◌, ◌≤◌, cond, List, [], ◌∷◌, length, MatchOption, Some, None, Option, nat_lt}
+use Rattle.std.specs.Prelude.{◌≡◌, ℕ, ◌+◌, ◌-◌, ◌<◌, ◌≤◌, cond, List, [], ◌∷◌, length, MatchOption, Some, None, Option, Result, MatchResult, nat_lt}
 use Rattle.std.specs.Borrow.{Bor}
 use Rattle.limits.specs.declared.drafts.Term.{Term}
 use Rattle.records.specs.declared.Reader.{Reader}
 use Rattle.records.specs.declared.Record.{Record}
 use Rattle.records.specs.declared.Terms.{Terms}
 use Rattle.records.specs.declared.Record.TheVariants.{Part, Limit, Goal, End}
+use Rattle.fields.specs.declared.Fault.{Fault}
 use Rattle.fields.specs.declared.Payload.{Payload}
 use Rattle.fields.specs.Fields.{Answer, found, fault, read_term}
-use Rattle.fields.specs.Meanings.{contents}
+use Rattle.fields.specs.Meanings.{fault_of, contents}
 use Rattle.records.specs.Sheets.{Saying, part_says, limit_says, goal_says, end_says, read_terms}
 
 abbrev pub terms_of : Answer (List Term) → List Term
@@ -48,6 +49,10 @@ Shows (Part p) n = n < 48
 Shows (Limit sense bound terms) n = LeftIn terms.now 0 0 (terms_in terms.now)
 Shows (Goal goal) n = Unit {0}
 Shows End n = Unit {0}
+
+-- a record is read as its definition says, up to a place; `Known` is what else is known of it
+abbrev pub ReadsRecord : Answer Saying → ℕ → (Record (Bor (List ℕ)) → Type 0) → Result (Record (Bor (List ℕ))) Fault → Type 0
+ReadsRecord answer end Known r = MatchResult r (λ p. (answer ≡ found (said p) end) × Known p) (λ f. answer ≡ fault_of f)
 
 abbrev pub term_of : Answer Term → Option Term
 term_of (found t p) = Some t

@@ -5,7 +5,7 @@ ghost use Rattle.records.specs.Codes.{kind_code};
 ghost use Rattle.fields.specs.Fields.{found};
 ghost use Rattle.fields.specs.Meanings.{fault_of, contents, read_from};
 ghost use Rattle.records.specs.Sheets.{end_says, ended, read_named_part, read_part, read_limit, read_goal, read_payload};
-ghost use Rattle.records.specs.Meanings.{said, terms_from, Shows};
+ghost use Rattle.records.specs.Meanings.{terms_from, Shows, ReadsRecord};
 
 use crate::{Goal, Kind, Part, Record};
 use fields::{Fault, Payload, Reason};
@@ -16,10 +16,7 @@ const MOST_PARTS: usize = 48;
 
 // The part of a payload, once its name is read.
 fn named_part<'a>(name: &'a [u8], mut payload: Payload) -> Result<Record<'a>, Fault>
-    ensures { MatchResult result
-        (λ p. (read_from (read_named_part name.now) payload.entry ≡ found (said p) (length payload.entry.body.now))
-        × ((n : ℕ) → n < 48 → Shows p n))
-        (λ f. read_from (read_named_part name.now) payload.entry ≡ fault_of f) }
+    ensures { ReadsRecord (read_from (read_named_part name.now) payload.entry) (length payload.entry.body.now) (λ p. (n : ℕ) → n < 48 → Shows p n) result }
 {
     let mass = payload.mass()?;
     let wait = payload.amount()?;
@@ -35,10 +32,7 @@ fn named_part<'a>(name: &'a [u8], mut payload: Payload) -> Result<Record<'a>, Fa
 
 // The part of a payload.
 fn part<'a>(mut payload: Payload<'a>, names: &[&'a [u8]]) -> Result<Record<'a>, Fault>
-    ensures { MatchResult result
-        (λ p. (read_from (read_part (contents names.now)) payload.entry ≡ found (said p) (length payload.entry.body.now))
-        × Shows p (length names.now))
-        (λ f. read_from (read_part (contents names.now)) payload.entry ≡ fault_of f) }
+    ensures { ReadsRecord (read_from (read_part (contents names.now)) payload.entry) (length payload.entry.body.now) (λ p. Shows p (length names.now)) result }
 {
     if names.len() >= MOST_PARTS {
         return Err(payload.fault(Reason::PartOutOfRange));
@@ -49,10 +43,7 @@ fn part<'a>(mut payload: Payload<'a>, names: &[&'a [u8]]) -> Result<Record<'a>, 
 
 // The goal of a payload.
 fn goal<'a>(mut payload: Payload<'a>) -> Result<Record<'a>, Fault>
-    ensures { MatchResult result
-        (λ p. (read_from read_goal payload.entry ≡ found (said p) (length payload.entry.body.now))
-        × ((n : ℕ) → Shows p n))
-        (λ f. read_from read_goal payload.entry ≡ fault_of f) }
+    ensures { ReadsRecord (read_from read_goal payload.entry) (length payload.entry.body.now) (λ p. (n : ℕ) → Shows p n) result }
 {
     let code = payload.number()?;
     let Ok(goal) = Goal::try_from(code) else {
@@ -78,10 +69,7 @@ fn all_terms(mut payload: Payload) -> Result<(), Fault>
 
 // The limit of a payload.
 fn limit<'a>(sense: Sense, mut payload: Payload<'a>) -> Result<Record<'a>, Fault>
-    ensures { MatchResult result
-        (λ p. (read_from (read_limit sense) payload.entry ≡ found (said p) (length payload.entry.body.now))
-        × ((n : ℕ) → Shows p n))
-        (λ f. read_from (read_limit sense) payload.entry ≡ fault_of f) }
+    ensures { ReadsRecord (read_from (read_limit sense) payload.entry) (length payload.entry.body.now) (λ p. (n : ℕ) → Shows p n) result }
 {
     let bound = payload.signed()?;
     all_terms(payload)?;
@@ -95,10 +83,8 @@ fn limit<'a>(sense: Sense, mut payload: Payload<'a>) -> Result<Record<'a>, Fault
 // The end, after which nothing stands.
 fn end<'a>(sheet: Payload<'a>) -> Result<Record<'a>, Fault>
     requires { sheet.at ≤ length sheet.body.now }
-    ensures { MatchResult result
-        (λ p. (ended sheet.entry.body.now sheet.entry.place end_says sheet.entry.at ≡ found (said p) sheet.entry.at)
-        × (sheet.entry.at ≡ length sheet.entry.body.now) × ((n : ℕ) → Shows p n))
-        (λ f. ended sheet.entry.body.now sheet.entry.place end_says sheet.entry.at ≡ fault_of f) }
+    ensures { ReadsRecord (ended sheet.entry.body.now sheet.entry.place end_says sheet.entry.at) sheet.entry.at
+        (λ p. (sheet.entry.at ≡ length sheet.entry.body.now) × ((n : ℕ) → Shows p n)) result }
 {
     sheet.end()?;
     Ok(Record::End)
@@ -113,11 +99,8 @@ pub fn payload<'a>(
 ) -> Result<Record<'a>, Fault>
     requires within { (payload.at ≤ length payload.body.now) × (length payload.body.now ≤ length sheet.body.now) }
     requires same { (payload.place ≡ sheet.place) × (payload.at ≡ sheet.at) }
-    ensures { MatchResult result
-        (λ p. (read_from (read_payload (kind_code kind) (contents names.now) sheet.entry.body.now) payload.entry
-        ≡ found (said p) (length payload.entry.body.now))
-        × Shows p (length names.now))
-        (λ f. read_from (read_payload (kind_code kind) (contents names.now) sheet.entry.body.now) payload.entry ≡ fault_of f) }
+    ensures { ReadsRecord (read_from (read_payload (kind_code kind) (contents names.now) sheet.entry.body.now) payload.entry)
+        (length payload.entry.body.now) (λ p. Shows p (length names.now)) result }
 {
     match kind {
         Kind::End => end(sheet),
