@@ -1,10 +1,10 @@
 //! The names of parts.
-ghost use Rattle.std.specs.Prelude.{◌≡◌, ℕ, ◌+◌, ◌<◌, ◌≤◌, length, MatchResult};
-ghost use Rattle.fields.specs.Fields.{found, among, read_name_size, read_name};
-ghost use Rattle.fields.specs.Meanings.{fault_of, contents};
+ghost use Rattle.std.specs.Prelude.{◌≡◌, ℕ, ◌+◌, ◌≤◌, length, IfOk};
+ghost use Rattle.fields.specs.Fields.{among, read_name_size, read_name};
+ghost use Rattle.fields.specs.Meanings.{contents, read_from, Reads, ReadsBy};
 
 use crate::judging::is_plain;
-use crate::{Fault, Layer, Reason, number};
+use crate::{Fault, Payload, Reason};
 
 // Whether a name is among others.
 fn is_among(names: &[&[u8]], name: &[u8]) -> bool
@@ -13,38 +13,33 @@ fn is_among(names: &[&[u8]], name: &[u8]) -> bool
     names.contains(&name)
 }
 
-// The length of a part's name.
-fn name_size(body: &[u8], place: usize, at: usize) -> Result<(usize, usize), Fault>
-    ensures { MatchResult result
-        (λ p. (read_name_size body.now place at ≡ found p.0 p.1) × (at < p.1) × (p.1 + p.0 ≤ length body.now))
-        (λ f. read_name_size body.now place at ≡ fault_of f) }
-{
-    let (size, at) = number(body, at)?;
-    if size < 1 || size > 16 {
-        return Err(Layer::Records.fault(Reason::BadName, place));
+impl<'a> Payload<'a> {
+    // The length of a part's name.
+    fn name_size(&mut self) -> Result<usize, Fault>
+        ensures is { Reads (read_from read_name_size self.old) self.old self.new result }
+        ensures within { IfOk result (λ n. self.new.at + n ≤ length self.old.body.now) }
+    {
+        let size = self.number()?;
+        if size < 1 || size > 16 {
+            return Err(self.fault(Reason::BadName));
+        }
+        let size = size as usize;
+        if self.body.len() - self.at < size {
+            return Err(self.fault(Reason::WrongLength));
+        }
+        Ok(size)
     }
-    let size = size as usize;
-    if body.len() - at < size {
-        return Err(Layer::Records.fault(Reason::WrongLength, place));
-    }
-    Ok((size, at))
-}
 
-/// A part's name, which none of the parts before it has.
-pub fn name<'a>(
-    body: &'a [u8],
-    names: &[&'a [u8]],
-    place: usize,
-    at: usize,
-) -> Result<(&'a [u8], usize), Fault>
-    ensures { MatchResult result
-        (λ p. (read_name (contents names.now) body.now place at ≡ found p.0.now p.1) × (at < p.1) × (p.1 ≤ length body.now))
-        (λ f. read_name (contents names.now) body.now place at ≡ fault_of f) }
-{
-    let (size, at) = name_size(body, place, at)?;
-    let name = &body[at..at + size];
-    if !is_plain(name) || is_among(names, name) {
-        return Err(Layer::Records.fault(Reason::BadName, place));
+    /// A part's name, which none of the parts before it has.
+    pub fn name(&mut self, names: &[&'a [u8]]) -> Result<&'a [u8], Fault>
+        ensures { ReadsBy (λ n. n.now) (read_from (read_name (contents names.now)) self.old) self.old self.new result }
+    {
+        let size = self.name_size()?;
+        let name = &self.body[self.at..self.at + size];
+        if !is_plain(name) || is_among(names, name) {
+            return Err(self.fault(Reason::BadName));
+        }
+        self.at += size;
+        Ok(name)
     }
-    Ok((name, at + size))
 }

@@ -1,5 +1,5 @@
 //! Bytes put into a lent slice, one after another.
-ghost use Rattle.std.specs.Prelude.{◌≡◌};
+ghost use Rattle.std.specs.Prelude.{◌≡◌, ◌-◌, length};
 ghost use Rattle.numbers.specs.Numbers.{encode, encode_signed};
 ghost use Rattle.numbers.specs.Cursors.{HasRoom, Puts};
 
@@ -25,6 +25,13 @@ impl<'a> Cursor<'a> {
         ensures { result ≡ self.now.at }
     {
         self.at
+    }
+
+    /// How many bytes have room at the cursor.
+    pub fn room(&self) -> usize
+        ensures { result ≡ length self.now.out.now - self.now.at }
+    {
+        self.out.len().saturating_sub(self.at)
     }
 
     /// Puts bytes where there is room.

@@ -1,6 +1,5 @@
 -- a record put piece by piece
 use Rattle.std.proofs.Common.{◌≡◌, ℕ, ◌+◌, ◌-◌, ◌<◌, ◌≤◌, List, ◌++◌, length, get_or, drop, pos, sym, ap, ◌∙◌, arith, length-append}
-use lib.Seq.{sets}
 use Rattle.std.proofs.lemmas.List.{at_drop_more}
 use Rattle.std.proofs.lemmas.Bool.{le-leb}
 use Rattle.limits.specs.declared.drafts.Term.{Term}
@@ -22,21 +21,15 @@ spelled_length : (s : Saying) → length (spelled s) ≡ length (encode (kind_of
 spelled_length s = simp length-append
 
 -- a record that passes is put where it has room
-pub appended : (s : Saying) (o : List ℕ) (at code size : ℕ) (a b c d : Cursor) → judge s ≡ done → code ≡ kind_of s → size ≡ length (payload s)
-    → a.at ≡ at → a.out.now ≡ o → at + (length (encode code) + (length (encode size) + size)) ≤ length o
+pub appended : (s : Saying) (code size : ℕ) (a b c d : Cursor) → judge s ≡ done → code ≡ kind_of s → size ≡ length (payload s)
+    → a.at + (length (encode code) + (length (encode size) + size)) ≤ length a.out.now
     → Puts (encode code) a b → Puts (encode size) b c → Puts (payload s) c d
-    → (refusal_of s (length o - at) ≡ done) × (d.out.now ≡ sets o at (spelled s)) × (d.at ≡ at + length (spelled s)) × (d.at ≤ length o)
-appended s o at code size a b c d j k z e f room p q r =
+    → (refusal_of s (length a.out.now - a.at) ≡ done) × Puts (spelled s) a d × (d.at ≤ length a.out.now)
+appended s code size a b c d j k z room p q r =
     let len = spelled_length s in
     let same : length (encode code) + (length (encode size) + size) ≡ length (spelled s) = rw (k, z) (sym len) in
     let all : Puts (spelled s) a d = puts_three (encode (kind_of s)) (encode (length (payload s))) (payload s) a b c d (rw k at p) (rw z at q) r in
-    let size' = all.size in
-    let at' = all.at in (
-      rw (j, le-leb (length (spelled s)) (length o - at) (omega arith)),
-      all.out ∙ cc,
-      omega arith,
-      omega arith,
-    )
+    (rw (j, le-leb (length (spelled s)) (length a.out.now - a.at) (omega arith)), all, omega (arith, all.at))
 
 -- terms
 

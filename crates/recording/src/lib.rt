@@ -6,6 +6,7 @@ ghost use Rattle.records.specs.Sheets.{goal_says, end_says};
 ghost use Rattle.recording.specs.Writing.{refusal_number, saying};
 
 use limits::drafts::Term;
+use numbers::cursors::Cursor;
 use records::{Goal, Record};
 
 mod judging;
@@ -50,9 +51,8 @@ pub fn end_entry() -> Entry<'static>
     Record::End
 }
 
-/// A lent slice, and how many of its bytes are written.
+/// A lent slice, and the place after what is written in it.
 #[derive(Drop)]
 pub struct Writer<'a> {
-    out: &'a mut [u8],
-    len: usize,
+    cursor: Cursor<'a>,
 }

@@ -1,13 +1,15 @@
 -- terms, one after another, and the same terms in a part of the sheet
-use Rattle.std.proofs.Common.{◌≡◌, ℕ, zero, suc, ◌+◌, ◌-◌, ◌<◌, ◌≤◌, Bool, true, false, cond, ltb, leb, List, [], ◌∷◌, ◌++◌, length, take, drop, ℤ, Some, None, sym, refl, ap, ◌∙◌, append_assoc, append-nil, add_assoc, arith, length-drop, le-ltb, lt-ltb}
-use Rattle.std.proofs.lemmas.List.{drop-drop, take_rest}
+use Rattle.std.proofs.Common.{◌≡◌, ℕ, zero, suc, ◌+◌, ◌-◌, ◌<◌, ◌≤◌, Bool, true, false, cond, ltb, leb, List, [], ◌∷◌, ◌++◌, length, drop, ℤ, Some, None, sym, refl, ap, ◌∙◌, append_assoc, append-nil, add_assoc, arith, length-drop, le-ltb, lt-ltb}
+use Rattle.std.proofs.lemmas.List.{drop-drop}
 use Rattle.std.proofs.lemmas.Bool.Decides.{nat_tests}
 use Rattle.limits.specs.declared.Sense.{Sense}
 use Rattle.limits.specs.declared.drafts.Term.{Term}
 use Rattle.numbers.specs.Numbers.{Reading, read, unread, decode, from_place, signed_reading}
 use Rattle.fields.specs.Fields.{Answer, found, fault, and_then, layered, number_at, signed_at, in_range, coefficient_at, read_term}
 use Rattle.records.specs.Sheets.{read_terms, read_limit, limit_says}
-use Rattle.records.specs.Meanings.{terms_in, terms_of, LeftIn, next_term}
+use Rattle.fields.specs.Meanings.{read_from}
+use Rattle.fields.specs.declared.Payload.{Payload}
+use Rattle.records.specs.Meanings.{terms_from, terms_in, terms_of, LeftIn, next_term}
 
 -- put terms in front of those that follow
 abbrev pub after : List Term → Answer (List Term) → Answer (List Term)
@@ -122,24 +124,29 @@ shifts_terms (suc n) body a b m q k =
 
 -- a limit shows its terms as a part of the sheet
 shown : (body : List ℕ) (at q : ℕ) (ts : List Term) → q ≤ length body → read_terms (length body - q) body at 0 q ≡ found ts (length body)
-    → read_terms (length (take (length body - q) (drop q body))) (take (length body - q) (drop q body)) 0 0 0
-    ≡ found ts (length (take (length body - q) (drop q body)))
+    → read_terms (length (drop q body)) (drop q body) 0 0 0 ≡ found ts (length (drop q body))
 shown body at q ts h f =
     let (j, a, b) = shifts_terms (length body - q) body at 0 0 q 0 ts (length body) (ap (read_terms (length body - q) body at 0) (omega arith) ∙ f) in
-    let fuel : read_terms (length (drop q body)) (drop q body) 0 0 0 ≡ found ts (length (drop q body)) =
-    ap (λ n. read_terms n (drop q body) 0 0 0) (length-drop q body) ∙ b ∙ ap (found ts) (let l = length-drop q body in omega arith) in
-    rw (take_rest body q) fuel
+    ap (λ n. read_terms n (drop q body) 0 0 0) (length-drop q body) ∙ b ∙ ap (found ts) (let l = length-drop q body in omega arith)
 
-pub limit_found : (l : Sense) (body : List ℕ) (at p q : ℕ) (v : ℤ) (ts : List Term) → q ≤ length body → signed_at body p ≡ found v q
+limit_found : (l : Sense) (body : List ℕ) (at p q : ℕ) (v : ℤ) (ts : List Term) → q ≤ length body → signed_at body p ≡ found v q
     → read_terms (length body - q) body at 0 q ≡ found ts (length body)
-    → (read_limit l body at p ≡ found (limit_says l v (terms_in (take (length body - q) (drop q body)))) (length body))
-    × LeftIn (take (length body - q) (drop q body)) 0 0 (terms_in (take (length body - q) (drop q body)))
+    → (read_limit l body at p ≡ found (limit_says l v (terms_in (drop q body))) (length body)) × LeftIn (drop q body) 0 0 (terms_in (drop q body))
 limit_found l body at p q v ts h e f =
     let s = shown body at q ts h f in
-    let same : ts ≡ terms_in (take (length body - q) (drop q body)) = sym (ap terms_of s) in (
+    let same : ts ≡ terms_in (drop q body) = sym (ap terms_of s) in (
       rw (e, f) (ap (λ x. found (limit_says l v x) (length body)) same),
-      (length (take (length body - q) (drop q body)), omega arith, s ∙ ap (λ x. found x (length (take (length body - q) (drop q body)))) same),
+      (length (drop q body), omega arith, s ∙ ap (λ x. found x (length (drop q body))) same),
     )
+
+-- the same in payloads, before and after the bound
+pub limit_read : (l : Sense) (was is : Payload) (v : ℤ) (ts : List Term) (rest : List ℕ) → is.body ≡ was.body → is.place ≡ was.place
+    → is.at ≤ length is.body.now → signed_at was.body.now was.at ≡ found v is.at → terms_from is ≡ found ts (length is.body.now)
+    → rest ≡ drop is.at is.body.now
+    → (read_from (read_limit l) was ≡ found (limit_says l v (terms_in rest)) (length was.body.now)) × LeftIn rest 0 0 (terms_in rest)
+limit_read l was is v ts rest b p h e f r =
+    let all : rest ≡ drop is.at was.body.now = r ∙ ap (λ x. drop is.at x.now) b in
+    rw all (limit_found l was.body.now was.place was.at is.at v ts (rw b at h) e (rw (b, p) at f))
 
 -- one term of those that are left
 

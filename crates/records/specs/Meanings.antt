@@ -1,17 +1,24 @@
 -- What the types of the code mean.
-use Rattle.std.specs.Prelude.{◌≡◌, ℕ, ◌-◌, ◌<◌, ◌≤◌, cond, List, [], length, Some, None, Option, nat_lt}
+use Rattle.std.specs.Prelude.{◌≡◌, ℕ, ◌+◌, ◌-◌, ◌<◌, ◌≤◌, cond, List, [], ◌∷◌, length, MatchOption, Some, None, Option, Result, MatchResult, nat_lt}
 use Rattle.std.specs.Borrow.{Bor}
 use Rattle.limits.specs.declared.drafts.Term.{Term}
 use Rattle.records.specs.declared.Reader.{Reader}
 use Rattle.records.specs.declared.Record.{Record}
+use Rattle.records.specs.declared.Terms.{Terms}
 use Rattle.records.specs.declared.Record.TheVariants.{Part, Limit, Goal, End}
+use Rattle.fields.specs.declared.Fault.{Fault}
+use Rattle.fields.specs.declared.Payload.{Payload}
 use Rattle.fields.specs.Fields.{Answer, found, fault, read_term}
-use Rattle.fields.specs.Meanings.{contents}
+use Rattle.fields.specs.Meanings.{fault_of, contents}
 use Rattle.records.specs.Sheets.{Saying, part_says, limit_says, goal_says, end_says, read_terms}
 
 abbrev pub terms_of : Answer (List Term) → List Term
 terms_of (found ts p) = ts
 terms_of (fault n l p) = []
+
+-- the terms from a payload's place to its end
+abbrev pub terms_from : Payload → Answer (List Term)
+terms_from p = read_terms (length p.body.now - p.at) p.body.now p.place 0 p.at
 
 -- the terms that stand in a part of the sheet
 abbrev pub terms_in : List ℕ → List Term
@@ -43,6 +50,10 @@ Shows (Limit sense bound terms) n = LeftIn terms.now 0 0 (terms_in terms.now)
 Shows (Goal goal) n = Unit {0}
 Shows End n = Unit {0}
 
+-- a record is read as its definition says, up to a place; `Known` is what else is known of it
+abbrev pub ReadsRecord : Answer Saying → ℕ → (Record (Bor (List ℕ)) → Type 0) → Result (Record (Bor (List ℕ))) Fault → Type 0
+ReadsRecord answer end Known r = MatchResult r (λ p. (answer ≡ found (said p) end) × Known p) (λ f. answer ≡ fault_of f)
+
 abbrev pub term_of : Answer Term → Option Term
 term_of (found t p) = Some t
 term_of (fault n l p) = None
@@ -50,3 +61,16 @@ term_of (fault n l p) = None
 -- the next term from a place on: none at the end, and none where no term stands
 abbrev pub next_term : List ℕ → ℕ → ℕ → Option Term
 next_term bytes least at = cond (nat_lt at (length bytes)) (term_of (read_term bytes 0 least at)) None
+
+-- what the next term is, and what is left after it
+pub record GivesTerm (was : Terms) (result : Option Term) (next : Terms) : Type 0 where
+  pub is : result ≡ next_term was.payload.body.now was.least was.payload.at
+  pub moves : MatchOption result
+      (next ≡ was)
+      (λ t. (read_term was.payload.body.now 0 was.least was.payload.at ≡ found t next.payload.at)
+      × (next.least ≡ t.part + 1)
+      × (t.part ≤ 47)
+      × (was.payload.at < next.payload.at))
+  pub terms : (ts : List Term) → LeftIn was.payload.body.now was.least was.payload.at ts
+      → MatchOption result (ts ≡ []) (λ t. (us : List Term) × (ts ≡ t ∷ us) × LeftIn next.payload.body.now next.least next.payload.at us)
+  pub bytes : next.payload.body.now ≡ was.payload.body.now

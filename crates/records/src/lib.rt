@@ -1,9 +1,10 @@
 //! A sheet of records, read one after another; names and terms are shown as parts of the sheet.
 #![tactic(auto)]
 
-ghost use Rattle.std.specs.Prelude.{◌≤◌, length};
+ghost use Rattle.std.specs.Prelude.{◌≡◌, ◌≤◌, length};
 
 use arrayvec::ArrayVec;
+use fields::Payload;
 use limits::Sense;
 
 mod codes;
@@ -79,8 +80,8 @@ pub struct Reader<'a> {
 /// The terms of a limit that was read, one after another; the next one's part is at least `least`.
 #[derive(Drop)]
 pub struct Terms<'a> {
-    bytes: &'a [u8],
-    at: usize,
+    payload: Payload<'a>,
     least: u8,
-    ghost ok: { at ≤ length bytes.now },
+    ghost inside: { payload.at ≤ length payload.body.now },
+    ghost first: { payload.place ≡ 0 },
 }

@@ -1,32 +1,27 @@
 //! The payloads of records, by their kinds.
-ghost use Rattle.std.specs.Prelude.{◌≡◌, ℕ, ◌-◌, ◌<◌, ◌≤◌, cond, List, length, MatchOption, MatchResult};
+ghost use Rattle.std.specs.Prelude.{◌≡◌, ℕ, ◌<◌, ◌≤◌, List, length, MatchResult};
 ghost use Rattle.limits.specs.declared.drafts.Term.{Term as LimitTerm};
 ghost use Rattle.records.specs.Codes.{kind_code};
 ghost use Rattle.fields.specs.Fields.{found};
-ghost use Rattle.fields.specs.Meanings.{fault_of, contents};
-ghost use Rattle.records.specs.Sheets.{end_says, ended, read_terms, read_named_part, read_part, read_limit, read_goal, read_payload};
-ghost use Rattle.records.specs.Meanings.{said, Shows};
+ghost use Rattle.fields.specs.Meanings.{fault_of, contents, read_from};
+ghost use Rattle.records.specs.Sheets.{end_says, ended, read_named_part, read_part, read_limit, read_goal, read_payload};
+ghost use Rattle.records.specs.Meanings.{terms_from, Shows, ReadsRecord};
 
 use crate::{Goal, Kind, Part, Record};
-use fields::naming::name;
-use fields::{Fault, Layer, Reason, amount, mass, number, signed, term};
+use fields::{Fault, Payload, Reason};
 use limits::Sense;
 
 // How many parts a sheet may have.
 const MOST_PARTS: usize = 48;
 
-// The part whose record is at `place`, once its name is read.
-fn named_part<'a>(name: &'a [u8], body: &[u8], place: usize, at: usize) -> Result<Record<'a>, Fault>
-    ensures { MatchResult result
-        (λ p. (read_named_part name.now body.now place at ≡ found (said p) (length body.now)) × ((n : ℕ) → n < 48 → Shows p n))
-        (λ f. read_named_part name.now body.now place at ≡ fault_of f) }
+// The part of a payload, once its name is read.
+fn named_part<'a>(name: &'a [u8], mut payload: Payload) -> Result<Record<'a>, Fault>
+    ensures { ReadsRecord (read_from (read_named_part name.now) payload.entry) (length payload.entry.body.now) (λ p. (n : ℕ) → n < 48 → Shows p n) result }
 {
-    let (mass, at) = mass(body, place, at)?;
-    let (wait, at) = amount(body, place, at)?;
-    let (price, at) = amount(body, place, at)?;
-    if at < body.len() {
-        return Err(Layer::Records.fault(Reason::WrongLength, place));
-    }
+    let mass = payload.mass()?;
+    let wait = payload.amount()?;
+    let price = payload.amount()?;
+    payload.end()?;
     Ok(Record::Part(Part {
         name,
         mass,
@@ -35,105 +30,82 @@ fn named_part<'a>(name: &'a [u8], body: &[u8], place: usize, at: usize) -> Resul
     }))
 }
 
-// The part whose record is at `place`.
-fn part<'a>(
-    body: &'a [u8],
-    names: &[&'a [u8]],
-    place: usize,
-    at: usize,
-) -> Result<Record<'a>, Fault>
-    ensures { MatchResult result
-        (λ p. (read_part (contents names.now) body.now place at ≡ found (said p) (length body.now))
-        × Shows p (length names.now))
-        (λ f. read_part (contents names.now) body.now place at ≡ fault_of f) }
+// The part of a payload.
+fn part<'a>(mut payload: Payload<'a>, names: &[&'a [u8]]) -> Result<Record<'a>, Fault>
+    ensures { ReadsRecord (read_from (read_part (contents names.now)) payload.entry) (length payload.entry.body.now) (λ p. Shows p (length names.now)) result }
 {
     if names.len() >= MOST_PARTS {
-        return Err(Layer::Records.fault(Reason::PartOutOfRange, place));
+        return Err(payload.fault(Reason::PartOutOfRange));
     }
-    let (name, at) = name(body, names, place, at)?;
-    named_part(name, body, place, at)
+    let name = payload.name(names)?;
+    named_part(name, payload)
 }
 
-// The goal whose record is at `place`.
-fn goal<'a>(body: &'a [u8], place: usize, at: usize) -> Result<Record<'a>, Fault>
-    ensures { MatchResult result
-        (λ p. (read_goal body.now place at ≡ found (said p) (length body.now)) × ((n : ℕ) → Shows p n))
-        (λ f. read_goal body.now place at ≡ fault_of f) }
+// The goal of a payload.
+fn goal<'a>(mut payload: Payload<'a>) -> Result<Record<'a>, Fault>
+    ensures { ReadsRecord (read_from read_goal payload.entry) (length payload.entry.body.now) (λ p. (n : ℕ) → Shows p n) result }
 {
-    let (code, at) = number(body, at)?;
+    let code = payload.number()?;
     let Ok(goal) = Goal::try_from(code) else {
-        return Err(Layer::Records.fault(Reason::BadGoal, place));
+        return Err(payload.fault(Reason::BadGoal));
     };
-    if at < body.len() {
-        return Err(Layer::Records.fault(Reason::WrongLength, place));
-    }
+    payload.end()?;
     Ok(Record::Goal(goal))
 }
 
-// Reads the terms of the limit whose record is at `place`, to the payload's end.
-fn all_terms(body: &[u8], place: usize, at: usize) -> Result<(), Fault>
-    requires { at ≤ length body.now }
+// Reads the terms of a payload, to its end.
+fn all_terms(mut payload: Payload) -> Result<(), Fault>
+    requires { payload.at ≤ length payload.body.now }
     ensures { MatchResult result
-        (λ _. ((ts : List LimitTerm) × (read_terms (length body.now - at) body.now place 0 at ≡ found ts (length body.now))))
-        (λ f. read_terms (length body.now - at) body.now place 0 at ≡ fault_of f) }
+        (λ _. ((ts : List LimitTerm) × (terms_from payload.entry ≡ found ts (length payload.entry.body.now))))
+        (λ f. terms_from payload.entry ≡ fault_of f) }
 {
-    let mut next = at;
     let mut least = 0;
-    while next < body.len() {
-        let (read, after) = term(body, place, least, next)?;
-        least = read.part + 1;
-        next = after;
+    while !payload.is_at_end() {
+        least = payload.term(least)?.part + 1;
     }
     Ok(())
 }
 
-// The limit whose record is at `place`.
-fn limit<'a>(sense: Sense, body: &'a [u8], place: usize, at: usize) -> Result<Record<'a>, Fault>
-    ensures { MatchResult result
-        (λ p. (read_limit sense body.now place at ≡ found (said p) (length body.now)) × ((n : ℕ) → Shows p n))
-        (λ f. read_limit sense body.now place at ≡ fault_of f) }
+// The limit of a payload.
+fn limit<'a>(sense: Sense, mut payload: Payload<'a>) -> Result<Record<'a>, Fault>
+    ensures { ReadsRecord (read_from (read_limit sense) payload.entry) (length payload.entry.body.now) (λ p. (n : ℕ) → Shows p n) result }
 {
-    let (bound, at) = signed(body, at)?;
-    all_terms(body, place, at)?;
+    let bound = payload.signed()?;
+    all_terms(payload)?;
     Ok(Record::Limit {
         sense,
         bound,
-        terms: &body[at..],
+        terms: payload.rest(),
     })
 }
 
-// The end, whose record is at `place`: nothing stands after it.
-fn end<'a>(sheet: &'a [u8], place: usize, at: usize) -> Result<Record<'a>, Fault>
-    requires { at ≤ length sheet.now }
-    ensures { MatchResult result
-        (λ p. (ended sheet.now place end_says at ≡ found (said p) at) × (at ≡ length sheet.now) × ((n : ℕ) → Shows p n))
-        (λ f. ended sheet.now place end_says at ≡ fault_of f) }
+// The end, after which nothing stands.
+fn end<'a>(sheet: Payload<'a>) -> Result<Record<'a>, Fault>
+    requires { sheet.at ≤ length sheet.body.now }
+    ensures { ReadsRecord (ended sheet.entry.body.now sheet.entry.place end_says sheet.entry.at) sheet.entry.at
+        (λ p. (sheet.entry.at ≡ length sheet.entry.body.now) × ((n : ℕ) → Shows p n)) result }
 {
-    if at < sheet.len() {
-        return Err(Layer::Records.fault(Reason::WrongLength, place));
-    }
+    sheet.end()?;
     Ok(Record::End)
 }
 
-// The record of a kind at `place`, whose payload is from `at` to the end of `body`.
+// The record of a kind, whose payload is read from a sheet.
 pub fn payload<'a>(
     kind: Kind,
-    sheet: &'a [u8],
-    body: &'a [u8],
     names: &[&'a [u8]],
-    place: usize,
-    at: usize,
+    sheet: Payload<'a>,
+    payload: Payload<'a>,
 ) -> Result<Record<'a>, Fault>
-    requires { (at ≤ length body.now) × (length body.now ≤ length sheet.now) }
-    ensures { MatchResult result
-        (λ p. (read_payload (kind_code kind) (contents names.now) sheet.now body.now place at ≡ found (said p) (length body.now))
-        × Shows p (length names.now))
-        (λ f. read_payload (kind_code kind) (contents names.now) sheet.now body.now place at ≡ fault_of f) }
+    requires within { (payload.at ≤ length payload.body.now) × (length payload.body.now ≤ length sheet.body.now) }
+    requires same { (payload.place ≡ sheet.place) × (payload.at ≡ sheet.at) }
+    ensures { ReadsRecord (read_from (read_payload (kind_code kind) (contents names.now) sheet.entry.body.now) payload.entry)
+        (length payload.entry.body.now) (λ p. Shows p (length names.now)) result }
 {
     match kind {
-        Kind::End => end(sheet, place, at),
-        Kind::Part => part(body, names, place, at),
-        Kind::Limit(sense) => limit(sense, body, place, at),
-        Kind::Goal => goal(body, place, at),
+        Kind::End => end(sheet),
+        Kind::Part => part(payload, names),
+        Kind::Limit(sense) => limit(sense, payload),
+        Kind::Goal => goal(payload),
     }
 }

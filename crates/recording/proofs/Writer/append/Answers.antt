@@ -1,7 +1,9 @@
+use Rattle.std.proofs.lemmas.Result.{MatchResult-weaker}
 use Rattle.spelling.proofs.Back.{back_in}
 use Rattle.recording.proofs.Writer.append.Goals as goal
 
 pub returns-clause-back : goal.returns-clause-back
 returns-clause-back c =
-    let h = c.in_ok-end.ensures in
-    back_in _ c.args.self.now.out.now c.write.new.out c.args.self.now.len c.in_ok-end.end h.0 h.1 h.2 h.3
+    MatchResult-weaker c.put_record.result c.put_record.ensures
+    (λ _ h. back_in _ c.args.self.now.cursor.out.now _ c.args.self.now.cursor.at _ h.0 h.1.out h.1.at h.2)
+    (λ _ _. tt)

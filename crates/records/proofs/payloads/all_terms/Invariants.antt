@@ -5,13 +5,14 @@ use Rattle.records.specs.Sheets.{read_terms}
 use Rattle.records.proofs.payloads.all_terms.Given as goal
 
 -- what is left to read, after the terms ts
-abbrev pub invariant-loop-next : goal.invariant-loop-next
-invariant-loop-next l =
-    (l.next ≤ length l.body) × (l.least ≤ 48)
+abbrev pub invariant-loop-payload : goal.invariant-loop-payload
+invariant-loop-payload l =
+    (l.payload.at ≤ length l.payload.body.now) × (l.least ≤ 48)
     × ((n : ℕ) × (ts : List Term)
-    × (length l.body - l.next ≤ n)
-    × (read_terms (length l.body - l.at) l.body l.place 0 l.at
-    ≡ and_then (read_terms n l.body l.place l.least l.next) (λ us r. found (ts ++ us) r)))
+    × (length l.payload.body.now - l.payload.at ≤ n)
+    × (read_terms (length l.fn.payload.body.now - l.fn.payload.at) l.fn.payload.body.now l.fn.payload.place 0 l.fn.payload.at
+    ≡ and_then (read_terms n l.payload.body.now l.payload.place l.least l.payload.at) (λ us r. found (ts ++ us) r)))
+    × (l.payload.body ≡ l.fn.payload.body)
 
-abbrev pub decreases-loop-next : goal.decreases-loop-next
-decreases-loop-next l = length l.body - l.next
+abbrev pub decreases-loop-payload : goal.decreases-loop-payload
+decreases-loop-payload l = length l.payload.body.now - l.payload.at
