@@ -134,6 +134,14 @@ fn perform<M: Memory, G: Grade>(
     Ok(Answered::Done)
 }
 
+// Puts a value into a place. For any type, since the place of a reply, whose size has many cases, is not found within the search's limits.
+fn put<T: Copy>(xs: &mut [T], i: usize, x: T)
+    requires { i < length xs.old }
+    ensures { xs.new ≡ slice_set xs.old i x }
+{
+    xs[i] = x;
+}
+
 /// Makes the calls of a new job over the lent places, one after another, and puts the answer to each into its place among the replies; what
 /// is left of the replies stays as it was. Refused if there are more calls than places for replies: then nothing is done.
 pub fn replay<M: Memory, G: Grade>(
@@ -150,7 +158,7 @@ pub fn replay<M: Memory, G: Grade>(
     }
     let mut job = Job::new(node_places);
     for (i, call) in calls.iter().enumerate() {
-        replies[i] = perform(&mut job, call, rows, memory);
+        put(replies, i, perform(&mut job, call, rows, memory));
     }
     Ok(())
 }

@@ -1,28 +1,22 @@
 -- Terms make a draft.
-use Rattle.std.proofs.Common.{◌≡◌, ℕ, ◌+◌, ◌≤◌, true, cond, ltb, leb, List, [], ◌∷◌, set, replicate, ℤ, pos, nat_abs, Some, None, Option, sym, refl, ap, ◌∙◌, subst, arith, lt-ltb, le-leb}
+use Rattle.std.proofs.Common.{◌≡◌, ℕ, ◌+◌, ◌≤◌, true, cond, ltb, leb, List, [], ◌∷◌, set, replicate, ℤ, pos, nat_abs, Some, None, Option, sym, ap, ◌∙◌, subst, arith, lt-ltb, le-leb}
+use Rattle.std.specs.Iterator.{Yields}
+use Rattle.std.specs.Iterator.Runs.{WholeRun}
+use Rattle.std.proofs.iter.runs.Made.{took}
 use Rattle.std.proofs.lemmas.Bool.{leb-true}
 use Rattle.fields.specs.Fields.{found, fault, and_then, number_at, signed_at, in_range, read_term, coefficient_at}
 use Rattle.spelling.proofs.Sole.{then_from, cond_from}
 use Rattle.limits.specs.declared.drafts.Term.{Term}
 use Rattle.limits.specs.Refusals.{done, refused}
-use Rattle.limits.specs.Drafts.{tested, coefficients_after, last_after}
-use Rattle.records.specs.Meanings.{LeftIn}
+use Rattle.limits.specs.Drafts.{tested, coefficients_after, last_after, drafted, opened, with_term, with_terms}
+use Rattle.records.specs.Meanings.{LeftIn, GivesTerm}
+use Rattle.records.specs.declared.Terms.{Terms}
 use Rattle.sheets.specs.Told.{filled, highest}
 
 -- the next term's part is at least `least`, one above the highest part named
 abbrev pub AfterLast : Option ℕ → ℕ → Type 0
 AfterLast None least = Unit {0}
 AfterLast (Some p) least = least ≡ p + 1
-
--- the terms that are left make the rest of the draft
-abbrev pub Made : List ℕ → List ℤ → Option ℕ → List ℕ → ℕ → ℕ → Type 0
-Made all cs last bytes least at =
-    (ts : List Term) → LeftIn all 0 0 ts
-    → (us : List Term) × LeftIn bytes least at us × (filled (replicate 48 (pos 0)) ts ≡ filled cs us) × (highest None ts ≡ highest last us)
-
-pub made_none : (all bytes : List ℕ) (least at : ℕ) → bytes ≡ all → at ≡ 0 → least ≡ 0 → Made all (replicate 48 (pos 0)) None bytes least at
-made_none all bytes least at e f g ts l =
-    (ts, subst (λ b. LeftIn b least at ts) (sym e) (subst (λ i. LeftIn all least i ts) (sym f) (subst (λ i. LeftIn all i 0 ts) (sym g) l)), refl, refl)
 
 -- a term whose part is in order and whose coefficient is in range is taken
 pub takes : (last : Option ℕ) (least : ℕ) (t : Term) → AfterLast last least → least ≤ t.part → t.part ≤ 47 → nat_abs t.coefficient ≤ 1000000 → tested last t.part t.coefficient ≡ done
@@ -46,28 +40,31 @@ term_judged body at least p t q e =
     let low = leb-true least i rises-from in
     (omega arith, subst (λ z. nat_abs z ≤ 1000000) coefficient (leb-true (nat_abs v) 1000000 small))
 
-pub made_more : (all : List ℕ) (cs cs' : List ℤ) (last last' : Option ℕ) (b d : List ℕ) (least at least' at' : ℕ) (t : Term)
-    → tested last t.part t.coefficient ≡ done
-    → cs' ≡ coefficients_after (tested last t.part t.coefficient) cs t.part t.coefficient
-    → last' ≡ last_after (tested last t.part t.coefficient) last t.part
-    → ((ts : List Term) → LeftIn b least at ts → (us : List Term) × (ts ≡ t ∷ us) × LeftIn d least' at' us)
-    → Made all cs last b least at → Made all cs' last' d least' at'
-made_more all cs cs' last last' b d least at least' at' t taken c l next made ts left =
-    let (us, m, f, h) = made ts left in
-    let (vs, e, k) = next us m in
-    let now-cs : cs' ≡ set cs t.part t.coefficient = c ∙ ap (λ r. coefficients_after r cs t.part t.coefficient) taken in
-    let now-last : last' ≡ Some t.part = l ∙ ap (λ r. last_after r last t.part) taken in
-    (vs, k, f ∙ ap (filled cs) e ∙ ap (λ x. filled x vs) (sym now-cs), h ∙ ap (highest last) e ∙ ap (λ x. highest x vs) (sym now-last))
+-- a term that is taken
+taken : (cs : List ℤ) (last : Option ℕ) (t : Term) → tested last t.part t.coefficient ≡ done → with_term (drafted cs last) t ≡ drafted (set cs t.part t.coefficient) (Some t.part)
+taken cs last t e = ap (λ r. drafted (coefficients_after r cs t.part t.coefficient) (last_after r last t.part)) e
 
-pub after_more : (last last' : Option ℕ) (least' : ℕ) (t : Term) → tested last t.part t.coefficient ≡ done → last' ≡ last_after (tested last t.part t.coefficient) last t.part → least' ≡ t.part + 1 → AfterLast last' least'
-after_more last last' least' t taken l e = subst (λ o. AfterLast o least') (sym (l ∙ ap (λ r. last_after r last t.part) taken)) e
+-- the terms that are left in a limit fill its draft
+fills : (was end : Terms) (xs : List Term) → Yields GivesTerm was xs end → (after : Terms) → GivesTerm end None after
+    → (cs : List ℤ) (last : Option ℕ) → AfterLast last was.least → (ts : List Term) → LeftIn was.payload.body.now was.least was.payload.at ts
+    → with_terms (drafted cs last) xs ≡ drafted (filled cs ts) (highest last ts)
+fills was end [] same after none cs last rises ts left =
+    let gone : ts ≡ [] = none.terms ts (subst (λ (s : Terms). LeftIn s.payload.body.now s.least s.payload.at ts) same left) in
+    ap (λ us. drafted (filled cs us) (highest last us)) (sym gone)
+fills was end (x ∷ xs) (next, one, more) after none cs last rises ts left =
+    let (us, e, later) = one.terms ts left in
+    let (read, least, few, moved) = one.moves in
+    let (low, small) = term_judged was.payload.body.now 0 was.least was.payload.at x next.payload.at read in
+    ap (λ d. with_terms d xs) (taken cs last x (takes last was.least x rises low few small))
+    ∙ (fills next end xs more after none (set cs x.part x.coefficient) (Some x.part) least us later
+    ∙ ap (λ vs. drafted (filled cs vs) (highest last vs)) (sym e))
 
-pub made_coefficients : (all : List ℕ) (cs : List ℤ) (last : Option ℕ) (b : List ℕ) (least at : ℕ) → ((ts : List Term) → LeftIn b least at ts → ts ≡ [])
-    → Made all cs last b least at → (ts : List Term) → LeftIn all 0 0 ts → cs ≡ filled (replicate 48 (pos 0)) ts
-made_coefficients all cs last b least at none made ts l =
-    let (us, m, f, h) = made ts l in sym (f ∙ ap (filled cs) (none us m))
-
-pub made_last : (all : List ℕ) (cs : List ℤ) (last : Option ℕ) (b : List ℕ) (least at : ℕ) → ((ts : List Term) → LeftIn b least at ts → ts ≡ [])
-    → Made all cs last b least at → (ts : List Term) → LeftIn all 0 0 ts → last ≡ highest None ts
-made_last all cs last b least at none made ts l =
-    let (us, m, f, h) = made ts l in sym (h ∙ ap (highest last) (none us m))
+pub made : (bytes : List ℕ) (was : Terms) (cs : List ℤ) (last : Option ℕ) → was.payload.body.now ≡ bytes → was.payload.at ≡ 0 → was.least ≡ 0
+    → WholeRun GivesTerm was (λ p. with_terms opened p.items ≡ drafted cs last)
+    → (ts : List Term) → LeftIn bytes 0 0 ts → drafted cs last ≡ drafted (filled (replicate 48 (pos 0)) ts) (highest None ts)
+made bytes was cs last e f g (run, from, whole, is) ts left =
+    let (end, yields, last_call) = took run in
+    let (after, none) = last_call whole in
+    let there : LeftIn was.payload.body.now was.least was.payload.at ts =
+    subst (λ b. LeftIn b was.least was.payload.at ts) (sym e) (subst (λ i. LeftIn bytes was.least i ts) (sym f) (subst (λ i. LeftIn bytes i 0 ts) (sym g) left)) in
+    sym is ∙ fills was end run.items (subst (λ s. Yields GivesTerm s run.items end) from yields) after none (replicate 48 (pos 0)) None tt ts there

@@ -18,12 +18,7 @@ fn drafted(bytes: &[u8]) -> Draft
     ensures coefficients { (ts : List LimitTerm) → LeftIn bytes.now 0 0 ts → result.coefficients ≡ filled (replicate 48 (pos 0)) ts }
     ensures last { (ts : List LimitTerm) → LeftIn bytes.now 0 0 ts → result.last ≡ highest None ts }
 {
-    let mut draft = Draft::open();
-    let mut terms = Terms::new(bytes);
-    while let Some(term) = terms.next() {
-        let _ = draft.term(term);
-    }
-    draft
+    Draft::of_terms(Terms::new(bytes))
 }
 
 /// Closes the limit of a record in the job.
