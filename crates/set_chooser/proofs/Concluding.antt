@@ -1,8 +1,9 @@
 -- A verdict's text is the text of what the sheet comes to.
-use Rattle.std.proofs.Common.{◌≡◌, ℕ, suc, ◌≤◌, Bool, true, false, cond, List, [], ◌∷◌, ◌++◌, map, length, drop, Some, None, Option, sym, refl, ap, ◌∙◌, subst, ap₂, arith, length-append}
+use Rattle.std.proofs.Common.{◌≡◌, ℕ, suc, ◌≤◌, Bool, true, false, cond, List, [], ◌∷◌, ◌++◌, map, length, drop, Some, None, Option, Ok, Err, Result, sym, refl, ap, ◌∙◌, subst, ap₂, arith, length-append}
 use Rattle.std.proofs.lemmas.List.{length-map}
 use Rattle.limits.specs.Choices.{bits}
 use Rattle.limits.specs.Limits.{keeps_all}
+use Rattle.limits.specs.declared.Refusal.{Refusal}
 use Rattle.limits.specs.Refusals.{Reply, done, refused}
 use Rattle.limits.proofs.Words.{bits_word}
 use Rattle.grades.specs.Laws.{Kind}
@@ -14,16 +15,22 @@ use Rattle.jobs.specs.Calls.{Standing, standing}
 use Rattle.listings.specs.declared.Grade.{Grade}
 use Rattle.listings.specs.declared.Grade.TheVariants.{Mass, Wait}
 use Rattle.listings.specs.Listings.{best_text, fitted}
-use Rattle.sheets.specs.Told.{Told, masses_of, waits_of, costs_of, whole, read_sheet}
+use Rattle.sheets.specs.declared.Figures.{Figures}
+use Rattle.sheets.specs.Notes.{part_of}
+use Rattle.sheets.specs.Told.{Part, Told, masses_of, waits_of, costs_of, whole, read_sheet}
 use Rattle.set_chooser.specs.Listing as said
 use Rattle.set_chooser.specs.Listing.{Outcome, fault_at, nothing, by_kind, by_goal, shown_price, concluded, text, listing}
 use Rattle.set_chooser.specs.Verdicts.{Judged, JudgedFor, verdict_text}
-use Rattle.set_chooser.specs.declared.solved.Verdict.{Verdict}
-use Rattle.set_chooser.specs.declared.solved.Verdict.TheVariants.{Refused, NothingFits, Best}
+use Rattle.set_chooser.specs.declared.solved.Best.{Best}
 
-pub map_same : {A : Type 0} (xs : List A) → map (λ x. x) xs ≡ xs
-map_same [] = refl
-map_same (x ∷ xs) = ap (λ ys. x ∷ ys) (map_same xs)
+-- what the noted figures weigh is what the parts weigh
+pub weighed : {W V : Type 0} (weight : Part → W) (weighs : W → V) (fs : List Figures) → map weighs (map (λ f. weight (part_of f)) fs) ≡ map (λ p. weighs (weight p)) (map part_of fs)
+weighed weight weighs [] = refl
+weighed weight weighs (f ∷ fs) = ap (λ xs. weighs (weight (part_of f)) ∷ xs) (weighed weight weighs fs)
+
+-- a verdict for a goal is one for the goal that it is
+pub for_goal : (g h : Goal) → g ≡ h → (ps : List Part) (s : Standing) (rows : Goal → ℕ) (v : Result (Option Best) Refusal) → JudgedFor h ps s (rows h) v → JudgedFor g ps s (rows g) v
+for_goal g h e ps s rows v j = subst (λ x. JudgedFor x ps s (rows x) v) (sym e) j
 
 chosen_size : {G : Type 0} (K : Kind G) (ws : List G) (passes : List Bool → Bool) → length (chosen K ws passes) ≡ length ws
 chosen_size K [] passes = refl
@@ -47,20 +54,20 @@ module _ {G : Type 0} (K : Kind G) (shown : G → Grade) (ws : List G) (t : Told
   abbrev on_reply : Reply → Outcome
   on_reply r = elim r [ done ↦ on_answer (answer K ws (keeps_all t.limits)) | refused n ↦ fault_at n 3 0 0 ]
 
-  pub by_kind_text : (v : Verdict) → length ws ≡ length t.names → Judged K shown ws (standing (length t.parts) t.limits) rows v → verdict_text v t.names ≡ text (by_kind K shown ws t rows)
-  by_kind_text (Refused e) size j = ap (λ r. text (on_reply r)) j
-  by_kind_text NothingFits size j = ap (λ o. text (on_answer o)) (sym j.1) ∙ ap (λ r. text (on_reply r)) j.0
-  by_kind_text (Best g choice) size (d, (c, a, w, e)) =
+  pub by_kind_text : (v : Result (Option Best) Refusal) → length ws ≡ length t.names → Judged K shown ws (standing (length t.parts) t.limits) rows v → verdict_text v t.names ≡ text (by_kind K shown ws t rows)
+  by_kind_text (Ok (Some b)) size (d, (c, a, w, e)) =
       let same : length t.names ≡ length c = sym (answer_size K ws (keeps_all t.limits) c a ∙ size) in
-      let is : bits (length t.names) choice.0 ≡ c = ap₂ bits same w ∙ bits_word c in
+      let is : bits (length t.names) b.choice.0 ≡ c = ap₂ bits same w ∙ bits_word c in
       ap₂ (λ x d. best_text x (fitted t.names d)) e is ∙ (ap (λ o. text (on_answer o)) (sym a) ∙ ap (λ r. text (on_reply r)) d)
+  by_kind_text (Ok None) size j = ap (λ o. text (on_answer o)) (sym j.1) ∙ ap (λ r. text (on_reply r)) j.0
+  by_kind_text (Err e) size j = ap (λ r. text (on_reply r)) j
 
-verdict_is : (g : Goal) (t : Told) (rows : ℕ) (v : Verdict) → length t.names ≡ length t.parts → JudgedFor g t.parts (standing (length t.parts) t.limits) rows v → verdict_text v t.names ≡ text (by_goal g t rows)
+verdict_is : (g : Goal) (t : Told) (rows : ℕ) (v : Result (Option Best) Refusal) → length t.names ≡ length t.parts → JudgedFor g t.parts (standing (length t.parts) t.limits) rows v → verdict_text v t.names ≡ text (by_goal g t rows)
 verdict_is goal.Mass t rows v size j = by_kind_text mass_kind Mass (masses_of t.parts) t rows v (length-map t.parts _ ∙ sym size) j
 verdict_is goal.Wait t rows v size j = by_kind_text wait_kind Wait (waits_of t.parts) t rows v (length-map t.parts _ ∙ sym size) j
 verdict_is goal.MassPrice t rows v size j = by_kind_text mass_price_kind shown_price (costs_of t.parts) t rows v (length-map t.parts _ ∙ sym size) j
 
-pub listing_is : (sheet : List ℕ) (places : ℕ) (rows : Goal → ℕ) (t : Told) (s : Standing) (names : List (List ℕ)) (v : Verdict) → whole t ≡ read_sheet sheet places → names ≡ t.names → s ≡ standing (length t.parts) t.limits → length t.names ≡ length t.parts → JudgedFor t.goal t.parts s (rows t.goal) v → verdict_text v names ≡ listing sheet places rows
+pub listing_is : (sheet : List ℕ) (places : ℕ) (rows : Goal → ℕ) (t : Told) (s : Standing) (names : List (List ℕ)) (v : Result (Option Best) Refusal) → whole t ≡ read_sheet sheet places → names ≡ t.names → s ≡ standing (length t.parts) t.limits → length t.names ≡ length t.parts → JudgedFor t.goal t.parts s (rows t.goal) v → verdict_text v names ≡ listing sheet places rows
 listing_is sheet places rows t s names v w n e size j =
     ap (verdict_text v) n ∙ (verdict_is t.goal t (rows t.goal) v size (subst (λ x. JudgedFor t.goal t.parts x (rows t.goal) v) e j) ∙ ap (λ r. text (concluded rows r)) w)
 

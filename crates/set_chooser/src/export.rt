@@ -20,18 +20,9 @@ pub fn set_chooser_list(sheet: &[u8], out: &mut [u8]) -> i64
     ensures right { RightListing sheet.now (listing_for_c sheet.now) }
 {
     let mut places = [Place::EMPTY; NODES];
-    let mut mass = [Row {
-        zero: None,
-        one: None,
-    }; NODES];
-    let mut wait = [Row {
-        zero: None,
-        one: None,
-    }; NODES];
-    let mut mass_price = [Row {
-        zero: None,
-        one: None,
-    }; NODES];
+    let mut mass = [Row::EMPTY; NODES];
+    let mut wait = [Row::EMPTY; NODES];
+    let mut mass_price = [Row::EMPTY; NODES];
     let mut slots: [Option<Remembered>; SLOTS] = [None; SLOTS];
     let mut rows = RowTables {
         mass: &mut mass,

@@ -2,6 +2,7 @@
 #![tactic(auto)]
 
 mod export;
+mod kinds;
 mod listing;
 mod replaying;
 mod solved;
@@ -14,7 +15,7 @@ pub use jobs::Job;
 pub use limits::drafts::{Draft, Side, Term};
 pub use limits::{Choice, Refusal, Sense};
 pub use listing::{ListRefusal, list};
-pub use logs::{Call, Found, LogRows, ReplayRefusal, Reply, Weights};
+pub use logs::{Answered, Call, Found, LogRows, ReplayRefusal, Reply, Weights};
 pub use memories::{Latest, Memory, NoMemory, Remembered, Slots};
 pub use numbers::{NumberFault, read_number, read_signed, write_number, write_signed};
 pub use recording::{Entry, Refusal as WriteRefusal, Writer, end_entry, goal_entry};

@@ -6,12 +6,9 @@ ghost use Rattle.set_chooser.specs.Verdicts.{rows_lent, verdict_text};
 ghost use Rattle.set_chooser.specs.Promise.{RightListing};
 
 use crate::solved::{RowTables, Verdict, solved};
-use jobs::Job;
 use listings::{FaultLine, write_best, write_fault, write_nothing};
 use memories::Memory;
-use records::Reader;
-use sheets::reading::read_all;
-use sheets::{Notes, Outcome};
+use sheets::reading::Sheet;
 use tables::Place;
 
 // A sheet has at most so many bytes.
@@ -43,9 +40,9 @@ fn write_verdict(out: &mut [u8], names: &[&[u8]], verdict: Verdict) -> Option<us
     ensures { Listed (verdict_text verdict (contents names.now)) out.old out.new result }
 {
     match verdict {
-        Verdict::Refused(refusal) => write_bare_fault(out, refusal.number()),
-        Verdict::NothingFits => write_nothing(out),
-        Verdict::Best(grade, choice) => write_best(out, grade, names, choice),
+        Ok(Some(best)) => write_best(out, best.grade, names, best.choice),
+        Ok(None) => write_nothing(out),
+        Err(refusal) => write_bare_fault(out, refusal.number()),
     }
 }
 
@@ -62,20 +59,18 @@ fn listed<M: Memory>(
     if sheet.len() > LONGEST_SHEET {
         return write_bare_fault(out, 16);
     }
-    let mut reader = Reader::new(sheet);
-    let mut job = Job::new(places);
-    let mut notes = Notes::new();
-    match read_all(&mut reader, &mut job, memory, &mut notes) {
-        Outcome::Faulty(record, flaw) => write_fault(
+    let mut sheet = Sheet::new(sheet, places);
+    match sheet.read_all(memory) {
+        Ok(()) => write_verdict(out, sheet.names(), solved(&sheet, rows)),
+        Err(first) => write_fault(
             out,
             FaultLine {
-                number: flaw.number,
-                layer: flaw.layer,
-                record,
-                place: flaw.place,
+                number: first.fault.number(),
+                layer: first.fault.layer(),
+                record: first.record,
+                place: first.fault.place(),
             },
         ),
-        Outcome::Whole => write_verdict(out, reader.names(), solved(&job, &notes, rows)),
     }
 }
 
@@ -92,8 +87,5 @@ pub fn list<M: Memory>(
     ensures right { RightListing sheet.now (listing sheet.now (length places.old) (rows_lent rows.old)) }
     ensures fits { IfOk result (λ n. n ≤ length out.old) }
 {
-    match listed(sheet, places, rows, memory, out) {
-        Some(written) => Ok(written),
-        None => Err(ListRefusal::OutputTooShort),
-    }
+    listed(sheet, places, rows, memory, out).ok_or(ListRefusal::OutputTooShort)
 }

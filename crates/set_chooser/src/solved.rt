@@ -1,19 +1,20 @@
-//! The verdict on a sheet that is read.
-ghost use Rattle.std.specs.Prelude.{map, length};
-ghost use Rattle.grades.specs.Kinds.{mass_kind, wait_kind, mass_price_kind, priced};
+//! What solving a sheet that is read comes to.
+ghost use Rattle.std.specs.Prelude.{◌≡◌, ◌≤◌, map, length};
 ghost use Rattle.jobs.specs.Stands.{stands};
-ghost use Rattle.listings.specs.declared.Grade.TheVariants.{Mass as MassGrams, Wait as WaitDays};
-ghost use Rattle.sheets.specs.Notes.{parts_of};
-ghost use Rattle.set_chooser.specs.Listing.{shown_price};
+ghost use Rattle.listings.specs.declared.Grade.{Grade as Shown};
+ghost use Rattle.sheets.specs.Notes.{part_of, parts_of};
 ghost use Rattle.set_chooser.specs.Verdicts.{rows_lent, Judged, JudgedFor};
 
+use crate::kinds::GoalKind;
+use arrayvec::ArrayVec;
 use grades::{Mass, MassPrice, Wait};
 use jobs::Job;
 use limits::{Choice, Refusal};
 use listings::Grade;
 use records::Goal;
 use rows::{Row, Rows};
-use sheets::Notes;
+use sheets::Figures;
+use sheets::reading::Sheet;
 
 /// Lent rows, one slice for each kind of grade.
 #[derive(Drop)]
@@ -23,60 +24,50 @@ pub struct RowTables<'a> {
     pub mass_price: &'a mut [Row<MassPrice>],
 }
 
-// What solving a sheet comes to.
-#[derive(Clone, Copy, Drop)]
-pub enum Verdict {
-    Refused(Refusal),
-    NothingFits,
-    Best(Grade, Choice),
+/// The rule's choice, and its grade as a listing shows it.
+#[derive(Clone, Copy, PartialEq, Eq, Debug, Drop)]
+pub struct Best {
+    pub grade: Grade,
+    pub choice: Choice,
 }
 
-fn by_mass(job: &Job, masses: &[i32], lent: &mut [Row<Mass>]) -> Verdict
-    ensures { Judged mass_kind MassGrams masses.now (stands job.now) (length lent.old) result }
+/// What solving a sheet comes to: the best, or nothing where nothing fits; or it is refused.
+pub type Verdict = Result<Option<Best>, Refusal>;
+
+// The weights of the parts by one kind of grade.
+fn weights<G: GoalKind>(figures: &[Figures]) -> ArrayVec<G::Weight, 48>
+where
+    G::Weight: Default + Drop,
+    requires { length figures.now ≤ 48 }
+    ensures { result.items ≡ map (λ f. G.weight_of (part_of f)) figures.now }
 {
-    let mut rows = Rows::new(lent);
-    match job.solve(masses, &mut rows) {
-        Ok(Some(answer)) => Verdict::Best(Grade::Mass(answer.grade.grams), answer.choice),
-        Ok(None) => Verdict::NothingFits,
-        Err(refusal) => Verdict::Refused(refusal),
+    let mut weights = ArrayVec::new();
+    for next in figures {
+        weights.push(G::weight(next));
     }
+    weights
 }
 
-fn by_wait(job: &Job, waits: &[u32], lent: &mut [Row<Wait>]) -> Verdict
-    ensures { Judged wait_kind WaitDays waits.now (stands job.now) (length lent.old) result }
+// Solves by one kind of grade.
+fn solved_by<G: GoalKind>(job: &Job, weights: &[G::Weight], lent: &mut [Row<G>]) -> Verdict
+    ensures { (shown : G.Meaning → Shown) → ((g : G) → G.shown g ≡ shown (G.means g)) → Judged G.kind shown (map G.weighs weights.now) (stands job.now) (length lent.old) result }
 {
-    let mut rows = Rows::new(lent);
-    match job.solve(waits, &mut rows) {
-        Ok(Some(answer)) => Verdict::Best(Grade::Wait(answer.grade.days), answer.choice),
-        Ok(None) => Verdict::NothingFits,
-        Err(refusal) => Verdict::Refused(refusal),
-    }
+    let answer = job.solve(weights, &mut Rows::new(lent))?;
+    Ok(answer.map(|answer| Best {
+        grade: answer.grade.show(),
+        choice: answer.choice,
+    }))
 }
 
-fn by_mass_price(job: &Job, costs: &[(i32, u32)], lent: &mut [Row<MassPrice>]) -> Verdict
-    ensures { Judged mass_price_kind shown_price (map (λ c. priced c.0 c.1) costs.now) (stands job.now) (length lent.old) result }
+/// Solves the sheet's parts and limits for its goal.
+pub fn solved(sheet: &Sheet, rows: &mut RowTables) -> Verdict
+    ensures { JudgedFor sheet.now.notes.goal (parts_of sheet.now.notes) (stands sheet.now.job) (rows_lent rows.old sheet.now.notes.goal) result }
 {
-    let mut rows = Rows::new(lent);
-    match job.solve(costs, &mut rows) {
-        Ok(Some(answer)) => Verdict::Best(
-            Grade::MassPrice {
-                mass: answer.grade.grams,
-                price: answer.grade.price,
-            },
-            answer.choice,
-        ),
-        Ok(None) => Verdict::NothingFits,
-        Err(refusal) => Verdict::Refused(refusal),
-    }
-}
-
-// Solves the sheet's parts and limits for its goal.
-pub fn solved(job: &Job, notes: &Notes, rows: &mut RowTables) -> Verdict
-    ensures { JudgedFor notes.now.goal (parts_of notes.now) (stands job.now) (rows_lent rows.old notes.now.goal) result }
-{
-    match notes.goal() {
-        Goal::Mass => by_mass(job, notes.masses(), rows.mass),
-        Goal::Wait => by_wait(job, notes.waits(), rows.wait),
-        Goal::MassPrice => by_mass_price(job, notes.costs(), rows.mass_price),
+    let job = sheet.job();
+    let figures = sheet.notes().figures();
+    match sheet.notes().goal() {
+        Goal::Mass => solved_by(job, &weights::<Mass>(figures), rows.mass),
+        Goal::Wait => solved_by(job, &weights::<Wait>(figures), rows.wait),
+        Goal::MassPrice => solved_by(job, &weights::<MassPrice>(figures), rows.mass_price),
     }
 }
