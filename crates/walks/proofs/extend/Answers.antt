@@ -1,4 +1,4 @@
-use Rattle.std.proofs.Common.{◌≡◌, ◌≤◌, true, false, take, sym, ap, ◌∙◌, subst, rules}
+use Rattle.std.proofs.Common.{◌≡◌, true, false, take, ap, ◌∙◌, rules, arith}
 use Rattle.std.specs.Option.{is_some}
 use Rattle.tables.specs.Places.{made}
 use Rattle.walks.specs.Extended.{all_needs}
@@ -11,7 +11,8 @@ build-extended-requires g c = record { begins = c.requires.begins; can = (all_ne
 pub truncate-requires : goal.truncate-requires
 truncate-requires g c =
     let b = c.build-extended.ensures (all_needs c.args.parts c.args.table.now c.args.product c.args.limit.now) (builds c.args.product c.args.limit.now c.requires.table) in
-    (b.grew.fits, subst (λ n. n ≤ c.build-extended.new.table.used) (sym c.used-before.ensures.used) (used_grows c.args.product c.args.limit.now c.requires.table b))
+    let more = used_grows c.args.product c.args.limit.now c.requires.table b in
+    (b.grew.fits, omega arith)
 
 pub returns-then-is_none : goal.returns-then-is_none
 returns-then-is_none g c =
