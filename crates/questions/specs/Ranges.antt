@@ -2,6 +2,7 @@
 use Rattle.std.specs.Prelude.{◌≡◌, ℕ, zero, suc, ◌-◌, ◌^◌, ◌≤◌, cond, List, length, ℤ, pos, ◌+ℤ◌, int_lt, slice_index_or, unsigned_abs}
 use Rattle.questions.specs.declared.Range.{Range}
 
+-- the range of the sum of no part
 abbrev pub no_range : Range
 no_range = record { low = pos 0; high = pos 0 }
 

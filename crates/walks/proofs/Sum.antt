@@ -33,8 +33,5 @@ module _ {parts : ℕ} {ts : List (List ℤ)} {t t' : NodeTable} {ws : List ℤ}
         edge = sum_joined parts (made t'') ws (i - 1) (omega arith) few e f (sums_grown parts s.grew.good.sound m.grew.grown ws (suc (i - 1)) e (below h)) (subst (λ z. Joined (made t'') (i - 1) z e f) is m.edge);
       }
 
-  pub summing_done : i ≤ 0 → Summed parts ts t t' ws (Some e)
-  summing_done h = let k : i ≡ 0 = omega arith in record { grew = s.grew; edge = subst (λ z. Sums parts (made t') ws z e) k s.edge }
-
   pub summing_full : (t'' : NodeTable) (fit : Edge) → Made parts ts t' t'' (i - 1) fit e None → Summed parts ts t t'' ws None
   summing_full t'' fit m = record { grew = grew_on s.grew m.grew; edge = m.edge }

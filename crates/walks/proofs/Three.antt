@@ -24,7 +24,7 @@ use Rattle.walks.proofs.Once.{grew_on}
 use Rattle.diagrams.specs.declared.Node.{Node}
 use Rattle.diagrams.proofs.Tail.{tail_sum}
 use Rattle.questions.specs.declared.Range.{Range}
-use Rattle.questions.specs.Ranges.{CanRange, RangesAre}
+use Rattle.questions.specs.Ranges.{RangesAre}
 use Rattle.walks.specs.Looks.{Ranged}
 
 term_small : (x : Bool) (a s : ℤ) (n : ℕ) → nat_abs a ≤ 1000000 → nat_abs s ≤ 1000000 * n → nat_abs (cond x a (pos 0) +ℤ s) ≤ 1000000 * suc n
@@ -36,7 +36,7 @@ sum_small [] c h = omega arith
 sum_small (a ∷ ws) [] h = omega arith
 sum_small (a ∷ ws) (x ∷ c) h = term_small x a (sum ws c) (length c) (h 0) (sum_small ws c (λ i. h (suc i)))
 
-module _ (parts : ℕ) (t : NodeTable) (product : Edge) (l : Limit) (b : Begins parts t product l) where
+module _ {parts : ℕ} {t : NodeTable} {product : Edge} {l : Limit} (b : Begins parts t product l) where
   kept_fit : (c : List Bool) → length c ≡ parts → Fit (operation_of l.sense) (sum l.coefficients c) l.bound
   kept_fit c h =
       let s = sum_small l.coefficients c b.coefficients in
@@ -53,14 +53,15 @@ module _ (parts : ℕ) (t : NodeTable) (product : Edge) (l : Limit) (b : Begins 
   bound_is : (t₁ : NodeTable) (c : List Bool) → edge_at (made t₁) 0 (bound_edge l) c ≡ l.bound
   bound_is t₁ c = edge_constant (made t₁) 0 (bound_edge l) c refl
 
-  pub kept_asked : (ts : List (List ℤ)) (t₁ : NodeTable) (e : Edge) → Sums parts (made t₁) l.coefficients 0 e → Builds parts ts t product l → Asked parts (made t₁) ts 0 (kept_question l e)
-  kept_asked ts t₁ e s m = record {
+  -- the question whether the sum keeps the limit may be asked
+  pub kept_asked : {ts : List (List ℤ)} {t₁ : NodeTable} {e : Edge} {q : Question} → Builds parts ts t product l → Grew parts ts t t₁ → Sums parts (made t₁) l.coefficients 0 e → q ≡ kept_question l e → Asked parts (made t₁) ts 0 q
+  kept_asked {ts} {t₁} {e} m g s is = subst (Asked parts (made t₁) ts 0) (sym is) (record {
     low = omega arith;
     left_in = s.from;
     right_in = tt;
     fit = λ c h. let k : length c ≡ parts = omega arith in subst (λ z. Fit (operation_of l.sense) z (edge_at (made t₁) 0 (bound_edge l) c)) (sym (sum_is t₁ e s c k)) (subst (λ z. Fit (operation_of l.sense) (sum l.coefficients c) z) (sym (bound_is t₁ c)) (kept_fit c k));
     allowed = let z : parts ≡ parts - 0 = omega arith in subst (λ p. Allows ts p (target (made t₁) 0 (kept_question l e))) z (allows_ext ts parts (kept l) (target (made t₁) 0 (kept_question l e)) (λ c h. sym (meaning_kept l c) ∙ sym (ap₂ (meaning (operation_of l.sense)) (sum_is t₁ e s c h) (bound_is t₁ c))) m.keeps);
-  }
+  })
 
   kept_is : (t₂ : NodeTable) (e f : Edge) (t₁ : NodeTable) → Sound parts (made t₁) → Grown (made t₁) (made t₂) → Sums parts (made t₁) l.coefficients 0 e → Right parts (made t₂) (kept_question l e) f → (c : List Bool) → length c ≡ parts → edge_at (made t₂) 0 f c ≡ kept l c
   kept_is t₂ e f t₁ sound g s r c h =
@@ -68,7 +69,11 @@ module _ (parts : ℕ) (t : NodeTable) (product : Edge) (l : Limit) (b : Begins 
       ∙ (ap₂ (meaning (operation_of l.sense)) (edge_grown parts sound g 0 e c s.from ∙ sum_is t₁ e s c h) (bound_is t₂ c)
       ∙ meaning_kept l c)
 
-  module _ (ts : List (List ℤ)) (m : Builds parts ts t product l) (t₁ t₂ : NodeTable) (g₁ : Grew parts ts t t₁) (g₂ : Grew parts ts t₁ t₂) (e f : Edge) (s : Sums parts (made t₁) l.coefficients 0 e) (r : Right parts (made t₂) (kept_question l e) f) where
+  -- the product, once it is known whether the sum keeps the limit
+  module _ {ts : List (List ℤ)} (m : Builds parts ts t product l) {t₁ t₂ : NodeTable} (g₁ : Grew parts ts t t₁) (g₂ : Grew parts ts t₁ t₂) {e f : Edge} (s : Sums parts (made t₁) l.coefficients 0 e) {q : Question} (is : q ≡ kept_question l e) (a : Right parts (made t₂) q f) where
+    r : Right parts (made t₂) (kept_question l e) f
+    r = subst (λ z. Right parts (made t₂) z f) is a
+
     abbrev last : Question
     last = question operation.Times product f
 
@@ -110,14 +115,16 @@ module _ (parts : ℕ) (t : NodeTable) (product : Edge) (l : Limit) (b : Begins 
               (in_either u (needed parts (sum l.coefficients)) (needed parts (kept l) ++ needed parts (times t product l)) m);
         }
 
-    pub last_built : (t₃ : NodeTable) (h : Option Edge) → Walked parts ts t₂ t₃ last h → Built parts ts t t₃ product l h
-    last_built t₃ None a = record { grew = grew_on (grew_on g₁ g₂) a.grew; edge = a.answer }
-    last_built t₃ (Some h) a = record { grew = grew_on (grew_on g₁ g₂) a.grew; edge = last_denotes t₃ a.grew h a.answer }
+    pub last_built : {t₃ : NodeTable} (h : Option Edge) → Walked parts ts t₂ t₃ last h → Built parts ts t t₃ product l h
+    last_built None w = record { grew = grew_on (grew_on g₁ g₂) w.grew; edge = w.answer }
+    last_built {t₃} (Some h) w = record { grew = grew_on (grew_on g₁ g₂) w.grew; edge = last_denotes t₃ w.grew h w.answer }
 
--- the ranges of the limit's sum serve both walks
-module _ (parts : ℕ) (ws : List ℤ) (rs : List Range) (can : CanRange parts ws) (room : length rs ≡ 49) (each : RangesAre parts ws 0 rs) (ns : List Node) where
-  pub kept_ranged : (l : Limit) (e : Edge) → Sums parts ns ws 0 e → Ranged parts ns rs (kept_question l e)
-  kept_ranged l e s = record { ws = ws; can = can; room = room; each = each; tail = tail_sum parts ns ws 0 (kept_question l e) (omega arith) s }
-
-  pub last_ranged : (q : Question) → q.operation ≡ operation.Times → Ranged parts ns rs q
-  last_ranged q is = record { ws = ws; can = can; room = room; each = each; tail = λ o. absurd (o is) }
+-- the ranges of the limit's sum serve the first of the two walks
+pub kept_ranged : {parts : ℕ} {t : NodeTable} {product : Edge} {l : Limit} → Begins parts t product l → (rs : List Range) → parts ≤ length l.coefficients → length rs ≡ 49 → RangesAre parts l.coefficients 0 rs → (ns : List Node) (e : Edge) → Sums parts ns l.coefficients 0 e → (q : Question) → q ≡ kept_question l e → Ranged parts ns rs q
+kept_ranged {parts} {l = l} b rs long room each ns e s q is = subst (Ranged parts ns rs) (sym is) (record {
+  ws = l.coefficients;
+  can = record { few = b.few; long = long; small = b.coefficients };
+  room = room;
+  each = each;
+  tail = tail_sum parts ns l.coefficients 0 (kept_question l e) (omega arith) s;
+})

@@ -33,7 +33,7 @@ made_at parts ns k [] t m = absurd m
 made_at parts ns k (n ∷ rest) t (inl e) = (0, n, refl, rw add-zero e)
 made_at parts ns k (n ∷ rest) t (inr m) = let h = made_at parts ns (suc k) rest t m in let z : suc k + h.0 ≡ k + suc h.0 = omega arith in (suc h.0, h.1, h.2, h.3 ∙ ap (λ j. node_table parts ns j h.1) z)
 
-module _ (parts : ℕ) (t : NodeTable) (product : Edge) (l : Limit) (s : SoundTable parts t) where
+module _ {parts : ℕ} {t : NodeTable} (product : Edge) (l : Limit) (s : SoundTable parts t) where
   abbrev ts : List (List ℤ)
   ts = all_needs parts t product l
 
@@ -96,16 +96,16 @@ module _ (parts : ℕ) (t : NodeTable) (product : Edge) (l : Limit) (s : SoundTa
       }
 
   -- what build leaves stays where it answers an edge, and is cut back where it answers none
-  pub stays : (t' : NodeTable) (r : Option Edge) → is_some r ≡ true → Built parts (all_needs parts t product l) t t' product l r → MatchOption r (Refused parts t t' product l) (λ e. Extended parts t t' product l e)
-  stays t' None h b = cc
-  stays t' (Some e) h b = extended t' e b
+  pub stays : {t' : NodeTable} (r : Option Edge) → is_some r ≡ true → Built parts (all_needs parts t product l) t t' product l r → MatchOption r (Refused parts t t' product l) (λ e. Extended parts t t' product l e)
+  stays None h b = cc
+  stays {t'} (Some e) h b = extended t' e b
 
-  pub cut_back : (t' t'' : NodeTable) (r : Option Edge) → is_some r ≡ false → Built parts (all_needs parts t product l) t t' product l r → room t'' ≡ room t' → made t'' ≡ take t.used (made t') → MatchOption r (Refused parts t t'' product l) (λ e. Extended parts t t'' product l e)
-  cut_back t' t'' None h b places is = refused t' t'' b places is
-  cut_back t' t'' (Some e) h b places is = cc
+  pub cut_back : {t' : NodeTable} (t'' : NodeTable) (r : Option Edge) → is_some r ≡ false → Built parts (all_needs parts t product l) t t' product l r → room t'' ≡ room t' → made t'' ≡ take t.used (made t') → MatchOption r (Refused parts t t'' product l) (λ e. Extended parts t t'' product l e)
+  cut_back {t'} t'' None h b places is = refused t' t'' b places is
+  cut_back t'' (Some e) h b places is = cc
 
-  pub used_grows : (t' : NodeTable) (r : Option Edge) → Built parts (all_needs parts t product l) t t' product l r → t.used ≤ t'.used
-  used_grows t' r b =
+  pub used_grows : {t' : NodeTable} {r : Option Edge} → Built parts (all_needs parts t product l) t t' product l r → t.used ≤ t'.used
+  used_grows {t'} b =
       let g = b.grew.grown in
       let n = made_length t in
       let n' = made_length t' in

@@ -82,7 +82,7 @@ fn look_up<M: Memory>(table: &NodeTable, ranges: &[Range], q: Question, memory: 
     requires { CanLook table.now ranges.now q }
     ensures { MatchOption result (Open q) (λ e. Answers q e ⊎ (Squares q e ⊎ (M.holds memory.now q e ⊎ ByRange table.now ranges.now q e))) }
 {
-    // Not a chain of `or_else`: a closure around `by_range`, which asks for `CanLook`, proves nothing of its result.
+    // No chain of `or_else`: nothing is known of what a closure answers that calls `by_range`, which asks for `CanLook`.
     if let Some(e) = shortcut(q) {
         return Some(e);
     }
@@ -96,6 +96,7 @@ fn look_up<M: Memory>(table: &NodeTable, ranges: &[Range], q: Question, memory: 
 }
 
 // The answer to root, by a loop with a stack of open questions.
+// Table, ranges and memory are no struct: each method on it would also have to say that the ranges and the lent table stay the same.
 fn walk<M: Memory>(
     table: &mut NodeTable,
     parts: u8,

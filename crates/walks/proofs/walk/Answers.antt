@@ -64,11 +64,8 @@ loop-answer-preserved-else-is_none g c =
           turn_found w _ (λ e. ⊎_elim (λ k. inl k) (⊎_elim (λ d. inr (turn_squared w e d)) (⊎_elim (λ h. inr (c.loop-answer.invariant.right c.loop-answer.q e h)) (λ b. inr (turn_ranged w c.args.ranges.now c.requires.ranged table a.left_in e b))))) c.look_up-answer.result c.look_up-answer.ensures some;
     }
 
-pub returns-in_default-pop : goal.returns-in_default-pop
-returns-in_default-pop g c = record {
-  done = λ ts table a. turn_last (in_state (c.loop-answer.invariant.walking ts table a) c.in-Some.is) (ap reverse (nil_from_length c.loop-answer.stack.items (search rules)));
-  right = c.loop-answer.invariant.right;
-}
+pub returns-in_default-pop-clause-done : goal.returns-in_default-pop-clause-done
+returns-in_default-pop-clause-done g c = λ ts table a. turn_last (in_state (c.loop-answer.invariant.walking ts table a) c.in-Some.is) (ap reverse (nil_from_length c.loop-answer.stack.items (search rules)))
 
 pub settled-q-requires : goal.settled-q-requires
 settled-q-requires g c =
