@@ -98,6 +98,7 @@ impl<'a, G: Grade> Rows<'a, G> {
 }
 
 /// An edge whose constant is 1 or 0.
+// Beside `Edge`, with steps of its own: a row keeps one grade for each of the two constants, so the constant is a truth here.
 #[derive(Clone, Copy, Drop)]
 pub struct BitEdge {
     pub one: bool,

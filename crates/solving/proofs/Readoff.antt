@@ -1,6 +1,5 @@
 -- The choice as a word, read off from part 0 up, and what a solve answers by it.
-use Rattle.std.proofs.Common.{◌≡◌, ℕ, ◌+◌, ◌*◌, ◌%◌, ◌^◌, ◌<◌, ◌≤◌, Bool, true, false, cond, List, [], ◌∷◌, length, drop, ℤ, pos, Some, None, Option, sym, ap, ◌∙◌, subst, ap₂, mul_assoc, mul-add, inl, inr, arith, pow-add}
-use Rattle.std.proofs.lemmas.List.{drop_all}
+use Rattle.std.proofs.Common.{◌≡◌, ℕ, ◌+◌, ◌*◌, ◌%◌, ◌^◌, ◌<◌, ◌≤◌, Bool, true, false, cond, List, ◌∷◌, length, ℤ, pos, Some, None, Option, sym, ap, ◌∙◌, subst, ap₂, mul_assoc, mul-add, inl, inr, arith, pow-add}
 use Rattle.std.proofs.lemmas.Nat.{one_shl, or_comm, or_shifted}
 use Rattle.std.specs.Int.RustNames.{bit_or}
 use Rattle.limits.specs.Choices.{word}
@@ -61,12 +60,6 @@ module _ (ns : List Node) (parts : ℕ) (root : Edge) (e : BitEdge) (is : e ≡ 
   start_ones = ap₂ (λ z c. ones_of ns 0 z c) start_const start_child
 
 module _ {V G : Type 0} {k : Kind V} (laws : Laws k) (means : G → V) (vs : List V) where
-  pub word_end : (i : ℕ) (all choice bit : ℕ) (passes : List Bool → Bool) → length vs ≤ i → all ≡ choice + bit * word (chosen k (drop i vs) passes) → choice ≡ all
-  word_end i all choice bit passes h e =
-      let none : drop i vs ≡ [] = drop_all i vs h in
-      let zero_is : bit * word (chosen k (drop i vs) passes) ≡ bit * 0 = ap (λ us. bit * word (chosen k us passes)) none in
-      omega arith
-
   solved_some : (passes : List Bool → Bool) (a : Answer G) → Some (means a.grade) ≡ best k vs passes → a.choice.0 ≡ word (chosen k vs passes) → Solved k means vs passes (Some a)
   solved_some passes a e h =
       let f : Found k laws vs passes (means a.grade) (chosen k vs passes) = subst (λ o. Ends k laws vs passes o (chosen k vs passes)) (sym e) (ends k laws vs passes) in

@@ -3,7 +3,7 @@ use Rattle.std.proofs.Common.{◌≡◌, ℕ, suc, ◌+◌, ◌<◌, ◌≤◌, 
 use mathlib.Core.Path.{fun_ext}
 use lib.IntN.{+ℤ_assoc}
 use Rattle.std.specs.List.{slice_get, AllByRecursion}
-use Rattle.std.proofs.lemmas.Bool.{ne_eqb, eq-eqb, cond-false, cond-true}
+use Rattle.std.proofs.lemmas.Bool.{eq-eqb, cond-true}
 use Rattle.grades.specs.Laws.{Kind, Laws}
 use Rattle.grades.specs.Rule.{best, put_on, left_out, chosen}
 use Rattle.diagrams.specs.Apply.{Bit}
@@ -11,36 +11,17 @@ use Rattle.diagrams.specs.Needs.{same, indicator}
 use Rattle.diagrams.specs.Nodes.{here, if_part, value, Under, Ordered}
 use Rattle.diagrams.specs.declared.Node.{Node}
 use Rattle.diagrams.specs.declared.Child.{Child}
-use Rattle.diagrams.specs.declared.Child.TheVariants.{Terminal, Place}
-use Rattle.diagrams.proofs.Canonical.{value_skip, value_fit, value_leave}
+use Rattle.diagrams.specs.declared.Child.TheVariants.{Place}
+use Rattle.diagrams.proofs.Canonical.{value_fit}
 use Rattle.rows.specs.Ones.{ones, Bits}
 use Rattle.rows.specs.Bests.{mapped, Put, IsBest, Tells}
 use Rattle.rows.specs.declared.Row.{Row}
 use Rattle.rows.specs.declared.BitEdge.{BitEdge}
-use Rattle.rows.proofs.Values.{above_at, under_up, bit_of, bits_fit}
+use Rattle.rows.proofs.Values.{under_up, bit_of, bits_fit}
 use Rattle.rows.proofs.Steps.{drop_nth, small_from, few_from, put_best}
 use Rattle.solving.specs.Settling.{Filled, StandsAt, Turns, Settles}
 
--- the terminal goes on to itself
-pub turns_terminal : (ns : List Node) (i : ℕ) (b : Bool) (r : Child) (x : Bool) → r ≡ Terminal → Turns ns i b r x b r
-turns_terminal ns i b r x er = record {
-  under = λ parts lim ord u. subst (λ s. Under ns (suc i) lim s) (sym er) tt;
-  follows = λ parts low bits c. ap (λ z. indicator b +ℤ z) (value_skip ns i r x c (ap (here ns i) er));
-}
-
 module _ (ns : List Node) (i : ℕ) (b : Bool) (r : Child) (x : Bool) (kk : ℕ) (n : Node) (er : r ≡ Place kk) (en : slice_get ns kk ≡ Some n) where
-  -- and so does an edge to a node of a later part
-  pub turns_skip : (n.part ≡ i → ⊥) → Turns ns i b r x b r
-  turns_skip ne = record {
-    under = λ parts lim ord u.
-        let v : Under ns i lim (Place kk) = subst (λ s. Under ns i lim s) er u in
-        let low : i ≤ n.part = above_at ns i lim kk n r er en u in
-        let w : Under ns (suc i) lim (Place kk) = (n, en, omega arith, v.3) in
-        subst (λ s. Under ns (suc i) lim s) (sym er) w;
-    follows = λ parts low bits c.
-        ap (λ z. indicator b +ℤ z) (value_skip ns i r x c (ap (here ns i) er ∙ (ap (if_part i) en ∙ cond-false (eqb n.part i) (Some n) None (ne_eqb n.part i ne))));
-  }
-
   module _ (e : n.part ≡ i) where
     stands : here ns i r ≡ Some n
     stands = ap (here ns i) er ∙ (ap (if_part i) en ∙ cond-true (eqb n.part i) (Some n) None (eq-eqb n.part i e))
@@ -49,12 +30,6 @@ module _ (ns : List Node) (i : ℕ) (b : Bool) (r : Child) (x : Bool) (kk : ℕ)
     child_under q lim h u =
         let v : Under ns i lim (Place kk) = subst (λ s. Under ns i lim s) er u in
         under_up ns (suc i) kk lim q (omega (arith, v.3)) (subst (λ j. Under ns (suc j) kk q) e h)
-
-    pub turns_leave : x ≡ false → Turns ns i b r x b n.right
-    turns_leave ex = record {
-      under = λ parts lim ord u. child_under n.right lim (ord.right kk n en) u;
-      follows = λ parts low bits c. ap (λ z. indicator b +ℤ z) (ap (λ y. value ns i r (y ∷ c)) ex ∙ value_leave ns i r n c stands);
-    }
 
     pub turns_fit : (s : Bool) (q : Child) → x ≡ true → q ≡ n.left → (Bit (indicator b +ℤ n.value) → indicator s ≡ indicator b +ℤ n.value) → Turns ns i b r x s q
     turns_fit s q ex eq flips = record {
