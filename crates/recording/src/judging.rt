@@ -25,7 +25,8 @@ fn judge_part(part: Part) -> Result<(), Refusal>
     Ok(())
 }
 
-// Judges a term whose part has to be at least `least`.
+// Judges a term whose part has to be at least `least`. A payload's `term` makes these tests too, but its first two before a
+// coefficient is read, and with faults that have a place; a draft's `term` refuses as a job does, and counts from the last part.
 fn judge_term(least: u8, term: Term) -> Result<(), Refusal>
     ensures { told result ≡ judge_term least term }
 {
