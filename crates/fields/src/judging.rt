@@ -4,6 +4,9 @@ ghost use Rattle.fields.specs.Fields.{plain, in_range};
 
 use limits::drafts::MOST_COEFFICIENT;
 
+/// A name has at most so many bytes.
+pub const LONGEST_NAME: usize = 16;
+
 /// A wait or a price is at most so much.
 pub const MOST_AMOUNT: u32 = 1_000_000;
 

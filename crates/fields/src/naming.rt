@@ -3,7 +3,7 @@ ghost use Rattle.std.specs.Prelude.{◌≡◌, ℕ, ◌+◌, ◌≤◌, length, 
 ghost use Rattle.fields.specs.Fields.{among, read_name_size, read_name};
 ghost use Rattle.fields.specs.Meanings.{contents, read_from, Reads, ReadsBy};
 
-use crate::judging::is_plain;
+use crate::judging::{LONGEST_NAME, is_plain};
 use crate::{Fault, Payload, Reason};
 
 // Whether a name is among others.
@@ -19,12 +19,11 @@ impl<'a> Payload<'a> {
         ensures is { Reads (read_from read_name_size self.old) self.old self.new result }
         ensures within { IfOk result (λ n. self.new.at + n ≤ length self.old.body.now) }
     {
-        let size = self.number()?;
-        if size < 1 || size > 16 {
+        let size = self.number()? as usize;
+        if size < 1 || size > LONGEST_NAME {
             return Err(self.fault(Reason::BadName));
         }
-        let size = size as usize;
-        if self.body.len() - self.at < size {
+        if self.rest().len() < size {
             return Err(self.fault(Reason::WrongLength));
         }
         Ok(size)
@@ -35,7 +34,7 @@ impl<'a> Payload<'a> {
         ensures { ReadsBy (λ n. n.now) (read_from (read_name (contents names.now)) self.old) self.old self.new result }
     {
         let size = self.name_size()?;
-        let name = &self.body[self.at..self.at + size];
+        let name = &self.rest()[..size];
         if !is_plain(name) || is_among(names, name) {
             return Err(self.fault(Reason::BadName));
         }

@@ -5,7 +5,7 @@ ghost use Rattle.spelling.specs.Spelling.{payload};
 ghost use Rattle.recording.specs.Writing.{told, saying};
 
 use crate::{Entry, Refusal};
-use fields::judging::{MOST_AMOUNT, in_range, is_plain};
+use fields::judging::{LONGEST_NAME, MOST_AMOUNT, in_range, is_plain};
 use limits::drafts::Term;
 use records::{Part, Record};
 
@@ -16,7 +16,7 @@ const MOST_BOUND: u32 = 100_000_000;
 fn judge_part(part: Part) -> Result<(), Refusal>
     ensures { told result ≡ judge_part part.entry.name.now part.entry.mass part.entry.wait part.entry.price }
 {
-    if part.name.is_empty() || part.name.len() > 16 || !is_plain(part.name) {
+    if part.name.is_empty() || part.name.len() > LONGEST_NAME || !is_plain(part.name) {
         return Err(Refusal::BadName);
     }
     if !in_range(part.mass) || part.wait > MOST_AMOUNT || part.price > MOST_AMOUNT {
@@ -25,7 +25,8 @@ fn judge_part(part: Part) -> Result<(), Refusal>
     Ok(())
 }
 
-// Judges a term whose part has to be at least `least`.
+// Judges a term whose part has to be at least `least`. A payload's `term` makes these tests too, but its first two before a
+// coefficient is read, and with faults that have a place; a draft's `term` refuses as a job does, and counts from the last part.
 fn judge_term(least: u8, term: Term) -> Result<(), Refusal>
     ensures { told result ≡ judge_term least term }
 {

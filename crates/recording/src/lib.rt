@@ -35,8 +35,6 @@ impl Refusal {
 /// A record that is to be written, whose terms are a slice.
 pub type Entry<'a> = Record<'a, &'a [Term]>;
 
-// The prover follows no literal of a type with a lifetime that holds no reference, so these two entries are made by calls.
-
 /// The entry of a goal.
 pub fn goal_entry(goal: Goal) -> Entry<'static>
     ensures { saying result ≡ goal_says goal }

@@ -43,7 +43,7 @@ pub struct Part<'a> {
     pub price: u32,
 }
 
-/// What a record says. A record that is read shows its name, and its terms as the bytes T, as parts of the sheet.
+/// What a record says. T is a limit's terms: a part of the sheet where the record is read, and a slice of terms where it is written.
 #[derive(Clone, Copy, PartialEq, Eq, Debug, Drop)]
 pub enum Record<'a, T = &'a [u8]> {
     Part(Part<'a>),

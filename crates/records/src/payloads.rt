@@ -53,7 +53,7 @@ fn goal<'a>(mut payload: Payload<'a>) -> Result<Record<'a>, Fault>
     Ok(Record::Goal(goal))
 }
 
-// Reads the terms of a payload, to its end.
+// Reads the terms of a payload, to its end. Terms that were read give no fault, so a fault is found here, before they are shown.
 fn all_terms(mut payload: Payload) -> Result<(), Fault>
     requires { payload.at ≤ length payload.body.now }
     ensures { MatchResult result
