@@ -18,8 +18,8 @@ pub trait Grade: Copy {
     /// The number of the kind.
     const CODE: u8;
 
-    // the number of the kind, in a contract
-    ghost number: { ℕ };
+    // the same number, in a contract
+    ghost CODE: { ℕ };
 
     // the grades that the kind has
     ghost Meaning: { Type 0 };
@@ -32,9 +32,12 @@ pub trait Grade: Copy {
 
     ghost kind: { Kind Meaning };
 
-    /// The number of the kind. Each kind writes its body, since no clause can cite an associated constant and so none could prove it here.
+    /// The number of the kind.
     fn kind_code() -> u8
-        ensures { result ≡ number };
+        ensures { result ≡ CODE }
+    {
+        Self::CODE
+    }
 
     /// The empty grade.
     fn empty() -> Self
@@ -66,7 +69,7 @@ impl Grade for Mass {
 
     const CODE: u8 = 0;
 
-    ghost number = { 0 };
+    ghost CODE = { 0 };
 
     ghost Meaning = { ℤ };
 
@@ -77,10 +80,6 @@ impl Grade for Mass {
     ghost kind = { mass_kind };
 
     ghost laws = { mass_laws };
-
-    fn kind_code() -> u8 {
-        Self::CODE
-    }
 
     fn empty() -> Mass {
         Mass { grams: 0 }
@@ -112,7 +111,7 @@ impl Grade for Wait {
 
     const CODE: u8 = 1;
 
-    ghost number = { 1 };
+    ghost CODE = { 1 };
 
     ghost Meaning = { ℕ };
 
@@ -123,10 +122,6 @@ impl Grade for Wait {
     ghost kind = { wait_kind };
 
     ghost laws = { wait_laws };
-
-    fn kind_code() -> u8 {
-        Self::CODE
-    }
 
     fn empty() -> Wait {
         Wait { days: 0 }
@@ -159,7 +154,7 @@ impl Grade for MassPrice {
 
     const CODE: u8 = 2;
 
-    ghost number = { 2 };
+    ghost CODE = { 2 };
 
     ghost Meaning = { Priced };
 
@@ -170,10 +165,6 @@ impl Grade for MassPrice {
     ghost kind = { mass_price_kind };
 
     ghost laws = { mass_price_laws };
-
-    fn kind_code() -> u8 {
-        Self::CODE
-    }
 
     fn empty() -> MassPrice {
         MassPrice { grams: 0, price: 0 }

@@ -73,7 +73,7 @@ pub record Lent : Type 0 where
 
 -- the lengths of the lent slices
 abbrev pub lent : {G : Type 0} → LogRows G → Lent
-lent r = record { mass = length r.mass.now; wait = length r.wait.now; mass_price = length r.mass_price.now; own = length r.own.now }
+lent r = record { mass = length r.tables.mass.now; wait = length r.tables.wait.now; mass_price = length r.tables.mass_price.now; own = length r.own.now }
 
 -- what a solve by mass, by wait, by mass with price, or by the further kind found; missing if it was by another
 abbrev pub by_mass : {G : Type 0} → Found G → Option (Option (Answer Mass))

@@ -13,7 +13,7 @@ use jobs::Job;
 use limits::drafts::{Draft, Side, Term};
 use limits::{Choice, Refusal};
 use memories::Memory;
-use rows::{Row, Rows};
+use rows::{Row, RowTables, Rows};
 use solving::Answer;
 use tables::Place;
 
@@ -62,12 +62,10 @@ pub enum ReplayRefusal {
     RepliesTooShort,
 }
 
-/// Lent rows for each kind of grade.
+/// Lent rows for each kind of grade: the three that goals name, and the further one.
 #[derive(Drop)]
 pub struct LogRows<'a, G> {
-    pub mass: &'a mut [Row<Mass>],
-    pub wait: &'a mut [Row<Wait>],
-    pub mass_price: &'a mut [Row<MassPrice>],
+    pub tables: RowTables<'a>,
     pub own: &'a mut [Row<G>],
 }
 
@@ -90,9 +88,13 @@ fn solved<G: Grade>(job: &Job, weights: &Weights<G::Weight>, rows: &mut LogRows<
     ensures lent { lent rows.new ≡ lent rows.old }
 {
     let found = match weights {
-        Weights::Mass(masses) => Found::Mass(solved_by(job, masses, rows.mass)?),
-        Weights::Wait(waits) => Found::Wait(solved_by(job, waits, rows.wait)?),
-        Weights::MassPrice(costs) => Found::MassPrice(solved_by(job, costs, rows.mass_price)?),
+        Weights::Mass(masses) => Found::Mass(solved_by(job, masses, rows.tables.mass)?),
+        Weights::Wait(waits) => Found::Wait(solved_by(job, waits, rows.tables.wait)?),
+        Weights::MassPrice(costs) => Found::MassPrice(solved_by(
+            job,
+            costs,
+            rows.tables.mass_price,
+        )?),
         Weights::Own(own) => Found::Own(solved_by(job, own, rows.own)?),
     };
     Ok(Answered::Solved(found))

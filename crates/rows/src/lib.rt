@@ -15,6 +15,10 @@ use diagrams::{Child, Edge, Node};
 use grades::Grade;
 use tables::NodeTable;
 
+pub use lent::RowTables;
+
+mod lent;
+
 /// The best grade of the parts from a node's up, where the edge to it has the constant 0, and where it has 1.
 #[derive(Clone, Copy)]
 pub struct Row<G> {

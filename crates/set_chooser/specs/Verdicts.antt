@@ -15,7 +15,7 @@ use Rattle.listings.specs.declared.Grade.TheVariants.{Mass, Wait}
 use Rattle.listings.specs.Listings.{best_text, nothing_text, fault_text, fitted}
 use Rattle.sheets.specs.Told.{Part, masses_of, waits_of, costs_of}
 use Rattle.set_chooser.specs.Listing.{shown_price}
-use Rattle.set_chooser.specs.declared.solved.RowTables.{RowTables}
+use Rattle.rows.specs.declared.lent.RowTables.{RowTables}
 use Rattle.set_chooser.specs.declared.solved.Best.{Best}
 
 -- the rows that are lent for a goal

@@ -3,9 +3,8 @@ ghost use Rattle.set_chooser.specs.Listing.{ListsForC, listing_for_c};
 ghost use Rattle.set_chooser.specs.Promise.{RightListing};
 
 use crate::listing::list;
-use crate::solved::RowTables;
 use memories::{Remembered, Slots};
-use rows::Row;
+use rows::{Row, RowTables};
 use tables::Place;
 
 // The nodes, and the rows of each kind, that the entry works with.

@@ -21,7 +21,6 @@ pub use numbers::{NumberFault, read_number, read_signed, write_number, write_sig
 pub use recording::{Entry, Refusal as WriteRefusal, Writer, end_entry, goal_entry};
 pub use records::{Goal, Placed, Reader, Record, Terms};
 pub use replaying::replay;
-pub use rows::{Row, Rows};
-pub use solved::RowTables;
+pub use rows::{Row, RowTables, Rows};
 pub use solving::Answer;
 pub use tables::Place;

@@ -5,9 +5,10 @@ ghost use Rattle.set_chooser.specs.Listing.{listing, Lists};
 ghost use Rattle.set_chooser.specs.Verdicts.{rows_lent, verdict_text};
 ghost use Rattle.set_chooser.specs.Promise.{RightListing};
 
-use crate::solved::{RowTables, Verdict, solved};
+use crate::solved::{Verdict, solved};
 use listings::{FaultLine, write_best, write_fault, write_nothing};
 use memories::Memory;
+use rows::RowTables;
 use sheets::reading::Sheet;
 use tables::Place;
 

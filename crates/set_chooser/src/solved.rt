@@ -12,17 +12,9 @@ use jobs::Job;
 use limits::{Choice, Refusal};
 use listings::Grade;
 use records::Goal;
-use rows::{Row, Rows};
+use rows::{Row, RowTables, Rows};
 use sheets::Figures;
 use sheets::reading::Sheet;
-
-/// Lent rows, one slice for each kind of grade.
-#[derive(Drop)]
-pub struct RowTables<'a> {
-    pub mass: &'a mut [Row<Mass>],
-    pub wait: &'a mut [Row<Wait>],
-    pub mass_price: &'a mut [Row<MassPrice>],
-}
 
 /// The rule's choice, and its grade as a listing shows it.
 #[derive(Clone, Copy, PartialEq, Eq, Debug, Drop)]
