@@ -22,10 +22,7 @@ fn four_parts(job: &mut Job) -> Result<(), Refusal> {
 
 // The choice's word and its grams.
 fn by_mass(job: &Job, masses: &[i32]) -> Result<Option<(u64, i32)>, Refusal> {
-    let mut rows: [Row<Mass>; 64] = [Row {
-        zero: None,
-        one: None,
-    }; 64];
+    let mut rows: [Row<Mass>; 64] = [Row::EMPTY; 64];
     match job.solve(masses, &mut Rows::new(&mut rows))? {
         Some(answer) => Ok(Some((answer.choice.0, answer.grade.grams))),
         None => Ok(None),
@@ -34,10 +31,7 @@ fn by_mass(job: &Job, masses: &[i32]) -> Result<Option<(u64, i32)>, Refusal> {
 
 // The choice's word and its longest wait.
 fn by_wait(job: &Job, waits: &[u32]) -> Result<Option<(u64, u32)>, Refusal> {
-    let mut rows: [Row<Wait>; 64] = [Row {
-        zero: None,
-        one: None,
-    }; 64];
+    let mut rows: [Row<Wait>; 64] = [Row::EMPTY; 64];
     match job.solve(waits, &mut Rows::new(&mut rows))? {
         Some(answer) => Ok(Some((answer.choice.0, answer.grade.days))),
         None => Ok(None),
@@ -46,10 +40,7 @@ fn by_wait(job: &Job, waits: &[u32]) -> Result<Option<(u64, u32)>, Refusal> {
 
 // The choice's word, its grams and its price.
 fn by_mass_price(job: &Job, weights: &[(i32, u32)]) -> Result<Option<(u64, i32, u32)>, Refusal> {
-    let mut rows: [Row<MassPrice>; 64] = [Row {
-        zero: None,
-        one: None,
-    }; 64];
+    let mut rows: [Row<MassPrice>; 64] = [Row::EMPTY; 64];
     match job.solve(weights, &mut Rows::new(&mut rows))? {
         Some(answer) => Ok(Some((answer.choice.0, answer.grade.grams, answer.grade.price))),
         None => Ok(None),
@@ -58,10 +49,7 @@ fn by_mass_price(job: &Job, weights: &[(i32, u32)]) -> Result<Option<(u64, i32, 
 
 // The choice's word, its cost and its longest wait.
 fn by_cost_wait(job: &Job, offers: &[Offer]) -> Result<Option<(u64, u32, u32)>, Refusal> {
-    let mut rows: [Row<CostWait>; 64] = [Row {
-        zero: None,
-        one: None,
-    }; 64];
+    let mut rows: [Row<CostWait>; 64] = [Row::EMPTY; 64];
     match job.solve(offers, &mut Rows::new(&mut rows))? {
         Some(answer) => Ok(Some((answer.choice.0, answer.grade.cents, answer.grade.days))),
         None => Ok(None),

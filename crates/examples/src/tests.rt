@@ -81,10 +81,7 @@ fn lightest(job: &Job, rows: &mut [Row<Mass>]) -> Result<Option<(u64, i32)>, Ref
 #[test]
 fn four_parts_by_mass(rt: HostRuntime) {
     let mut places = [Place::EMPTY; 64];
-    let mut rows = [Row {
-        zero: None,
-        one: None,
-    }; 64];
+    let mut rows = [Row::EMPTY; 64];
     let mut job = Job::new(&mut places);
     assert_eq!(rt; four_parts(&mut job, &mut NoMemory::new()), Ok(()));
     assert_eq!(rt; lightest(&job, &mut rows), Ok(Some((10, 125))));
@@ -125,10 +122,7 @@ fn four_parts_by_mass(rt: HostRuntime) {
 #[test]
 fn refusals_of_a_job(rt: HostRuntime) {
     let mut places = [Place::EMPTY; 8];
-    let mut rows: [Row<Mass>; 8] = [Row {
-        zero: None,
-        one: None,
-    }; 8];
+    let mut rows: [Row<Mass>; 8] = [Row::EMPTY; 8];
     let mut job = Job::new(&mut places);
     assert_eq!(rt; job.begin(49), Err(Refusal::PartOutOfRange));
     assert_eq!(rt; job.begin(2), Ok(()));
@@ -225,14 +219,8 @@ fn sixty_four_limits(rt: HostRuntime) {
 #[test]
 fn refusals_of_a_solve(rt: HostRuntime) {
     let mut places = [Place::EMPTY; 8];
-    let mut one = [Row {
-        zero: None,
-        one: None,
-    }; 1];
-    let mut two = [Row {
-        zero: None,
-        one: None,
-    }; 2];
+    let mut one = [Row::EMPTY; 1];
+    let mut two = [Row::EMPTY; 2];
     let mut job = Job::new(&mut places);
     assert_eq!(rt; job.begin(1), Ok(()));
     assert_eq!(rt;

@@ -18,7 +18,7 @@ const USAGE: &str = "usage: setlist [--places N] < SHEET, with N from 1 to 60000
 // A number of places, from 1 to 60,000.
 fn parsed(text: &str) -> anyhow::Result<usize> {
     match text.parse::<usize>() {
-        Ok(places) if places >= 1 && places <= MOST_PLACES => Ok(places),
+        Ok(places) if (1..=MOST_PLACES).contains(&places) => Ok(places),
         _ => Err(anyhow!(USAGE)),
     }
 }
@@ -51,18 +51,9 @@ fn run(rt: &HostRuntime) -> anyhow::Result<()> {
     let mut sheet = Vec::new(rt.alloc());
     let _ = rt.stdin().read_to_end(&mut sheet)?;
     let mut places = vec![in rt.alloc(); Place::EMPTY; count]?;
-    let mut mass = vec![in rt.alloc(); Row {
-        zero: None,
-        one: None
-    }; count]?;
-    let mut wait = vec![in rt.alloc(); Row {
-        zero: None,
-        one: None
-    }; count]?;
-    let mut mass_price = vec![in rt.alloc(); Row {
-        zero: None,
-        one: None
-    }; count]?;
+    let mut mass = vec![in rt.alloc(); Row::EMPTY; count]?;
+    let mut wait = vec![in rt.alloc(); Row::EMPTY; count]?;
+    let mut mass_price = vec![in rt.alloc(); Row::EMPTY; count]?;
     let mut slots = vec![in rt.alloc(); None; 4 * count]?;
     let mut out = vec![in rt.alloc(); 0u8; LONGEST_LISTING]?;
     let mut rows = RowTables {
