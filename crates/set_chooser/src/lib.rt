@@ -19,7 +19,7 @@ pub use logs::{Answered, Call, Found, LogRows, ReplayRefusal, Reply, Weights};
 pub use memories::{Latest, Memory, NoMemory, Remembered, Slots};
 pub use numbers::{NumberFault, read_number, read_signed, write_number, write_signed};
 pub use recording::{Entry, Refusal as WriteRefusal, Writer, end_entry, goal_entry};
-pub use records::{Goal, Placed, Reader, Record, Terms};
+pub use records::{Goal, Part, Placed, Reader, Record, Terms};
 pub use replaying::replay;
 pub use rows::{Row, RowTables, Rows};
 pub use solving::Answer;
