@@ -1,7 +1,7 @@
 -- What the walk and a solve need of a job's books. The books are known to be kept, not how; so what is taken from them has one proof.
 use Rattle.std.proofs.Common.{◌≡◌, ℕ, suc, ◌^◌, ◌<◌, ◌≤◌, Bool, true, false, ◌&&◌, leb, List, [], ◌∷◌, length, get_or, pos, nat_abs, Some, None, Option, sym, refl, ap, ◌∙◌, subst, inl, inr, arith}
 use mathlib.Core.Logic.{∥∥₁_elim}
-use mathlib.Core.HLevel.{Π_prop, ×_prop, Unit-prop}
+use mathlib.Core.HLevel.{Π_prop, ×_prop}
 use native.Mathlib.Nat.{ℕ_set}
 use native.Mathlib.Bridge.{le_prop}
 use lib.IntN.{ℤ_set}
@@ -24,40 +24,13 @@ use Rattle.tables.specs.Chains.{made}
 use Rattle.walks.specs.Extended.{Begins, SoundTable}
 use Rattle.rows.specs.Ones.{BitsOf, ones_of}
 use Rattle.rows.specs.Bests.{Ready}
+use Rattle.rows.specs.Readied.{under_prop}
 use Rattle.solving.specs.Settling.{Solved}
 use Rattle.solving.specs.declared.Answer.{Answer}
 use Rattle.jobs.specs.Books.{Denotes, Held, limits_of, product_of, Books}
 use Rattle.jobs.specs.Calls.{all_in_range}
 use Rattle.jobs.specs.declared.ledger.Record.{Record}
 use Rattle.jobs.proofs.Kept.{top_held}
-
-abbrev At : ℕ → Option Node → Type 0
-At i None = ⊥
-At i (Some n) = i ≤ n.part
-
-at_prop : (i : ℕ) (o : Option Node) (x y : At i o) → x ≡ y
-at_prop i None x y = absurd x
-at_prop i (Some n) x y = le_prop x y
-
-abbrev Below : List Node → ℕ → ℕ → Child → Type 0
-Below ns i lim Terminal = Unit {0}
-Below ns i lim (Place k) = At i (slice_get ns k) × (k < lim)
-
-below_prop : (ns : List Node) (i lim : ℕ) (r : Child) (x y : Below ns i lim r) → x ≡ y
-below_prop ns i lim Terminal x y = Unit-prop x y
-below_prop ns i lim (Place k) x y = ×_prop (at_prop i (slice_get ns k)) le_prop x y
-
-below_of : (ns : List Node) (i lim : ℕ) (r : Child) → Under ns i lim r → Below ns i lim r
-below_of ns i lim Terminal u = tt
-below_of ns i lim (Place k) u = (subst (At i) (sym u.1) u.2, u.3)
-
-under_of : (ns : List Node) (i lim : ℕ) (r : Child) → Below ns i lim r → Under ns i lim r
-under_of ns i lim Terminal b = tt
-under_of ns i lim (Place k) b = go (slice_get ns k) refl b.0
-  where
-    go : (o : Option Node) → slice_get ns k ≡ o → At i o → Under ns i lim (Place k)
-    go None e h = absurd h
-    go (Some n) e h = (n, e, h, b.1)
 
 from_under : (ns : List Node) (i lim : ℕ) (r : Child) → Under ns i lim r → From ns i r
 from_under ns i lim Terminal u = tt
@@ -66,25 +39,25 @@ from_under ns i lim (Place k) u = (u.0, u.1, u.2)
 -- what is taken from the books
 abbrev Facts : ℕ → List Limit → List Node → Edge → Type 0
 Facts parts ls ns e =
-    ((k : ℕ) (n : Node) → slice_get ns k ≡ Some n → (n.part < parts) × (Below ns (suc n.part) k n.left × (Below ns (suc n.part) k n.right × (nat_abs n.value ≤ 2 ^ 29))))
+    ((k : ℕ) (n : Node) → slice_get ns k ≡ Some n → (n.part < parts) × (Under ns (suc n.part) k n.left × (Under ns (suc n.part) k n.right × (nat_abs n.value ≤ 2 ^ 29))))
     × (((k : ℕ) (n : Node) → slice_get ns k ≡ Some n → n.left ≡ n.right → n.value ≡ pos 0 → ⊥)
     × (((j k : ℕ) (n : Node) → slice_get ns j ≡ Some n → slice_get ns k ≡ Some n → j ≡ k)
-    × (Below ns 0 (length ns) e.child × Denotes parts ls ns e)))
+    × (Under ns 0 (length ns) e.child × Denotes parts ls ns e)))
 
 none_prop : (x y : ⊥) → x ≡ y
 none_prop x y = absurd x
 
 facts_prop : (parts : ℕ) (ls : List Limit) (ns : List Node) (e : Edge) (x y : Facts parts ls ns e) → x ≡ y
 facts_prop parts ls ns e = ×_prop
-    (Π_prop (λ k. Π_prop (λ n. Π_prop (λ h. ×_prop le_prop (×_prop (below_prop ns (suc n.part) k n.left) (×_prop (below_prop ns (suc n.part) k n.right) le_prop))))))
+    (Π_prop (λ k. Π_prop (λ n. Π_prop (λ h. ×_prop le_prop (×_prop (under_prop ns (suc n.part) k n.left) (×_prop (under_prop ns (suc n.part) k n.right) le_prop))))))
     (×_prop (Π_prop (λ k. Π_prop (λ n. Π_prop (λ h. Π_prop (λ a. Π_prop (λ b. none_prop))))))
     (×_prop (Π_prop (λ j. Π_prop (λ k. Π_prop (λ n. Π_prop (λ a. Π_prop (λ b. ℕ_set _ _))))))
-    (×_prop (below_prop ns 0 (length ns) e.child) (Π_prop (λ c. Π_prop (λ l. ℤ_set _ _))))))
+    (×_prop (under_prop ns 0 (length ns) e.child) (Π_prop (λ c. Π_prop (λ l. ℤ_set _ _))))))
 
 facts_of : (parts : ℕ) (ls : List Limit) (ns : List Node) (e : Edge) → Held parts ls ns e → Facts parts ls ns e
 facts_of parts ls ns e h = (
-  λ k n q. (h.ordered.below k n q, (below_of ns (suc n.part) k n.left (h.ordered.left k n q), (below_of ns (suc n.part) k n.right (h.ordered.right k n q), h.small k n q))),
-  (h.holds.sound.reduced, (h.holds.sound.unique, (below_of ns 0 (length ns) e.child h.under, h.denotes))),
+  λ k n q. (h.ordered.below k n q, (h.ordered.left k n q, (h.ordered.right k n q, h.small k n q))),
+  (h.holds.sound.reduced, (h.holds.sound.unique, (h.under, h.denotes))),
 )
 
 bit_indicator : (b : Bool) → Bit (indicator b)
@@ -103,8 +76,8 @@ module _ (parts : ℕ) (ns : List Node) (rs : List Record) (count : ℕ) (e : Ed
   pub is_ordered : Ordered parts ns
   is_ordered = record {
     below = λ k n q. (facts.0 k n q).0;
-    left = λ k n q. under_of ns (suc n.part) k n.left (facts.0 k n q).1.0;
-    right = λ k n q. under_of ns (suc n.part) k n.right (facts.0 k n q).1.1.0;
+    left = λ k n q. (facts.0 k n q).1.0;
+    right = λ k n q. (facts.0 k n q).1.1.0;
   }
 
   is_sound : Sound parts ns
@@ -120,7 +93,7 @@ module _ (parts : ℕ) (ns : List Node) (rs : List Record) (count : ℕ) (e : Ed
   is_small k n q = (facts.0 k n q).1.1.1
 
   pub is_under : Under ns 0 (length ns) e.child
-  is_under = under_of ns 0 (length ns) e.child facts.1.1.1.0
+  is_under = facts.1.1.1.0
 
   pub is_product : Denotes parts (limits_of rs count) ns e
   is_product = facts.1.1.1.1

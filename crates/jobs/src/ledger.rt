@@ -1,5 +1,5 @@
 //! The standing limits of a job.
-ghost use Rattle.std.specs.Prelude.{◌≡◌, ◌+◌, ◌<◌, ◌≤◌, length, slice_index_or, slice_set};
+ghost use Rattle.std.specs.Prelude.{◌≡◌, ◌+◌, ◌<◌, ◌≤◌, length, take, slice_index_or, slice_set};
 ghost use Rattle.jobs.specs.Books.{product_of, blank};
 
 use diagrams::Edge;
@@ -16,8 +16,8 @@ pub struct Record {
     pub mark: usize,
 }
 
-/// The records of the standing limits, the first `count` of the table. The table has its 64 records from the start on, and each is filled
-/// in its place.
+/// The records of the standing limits, the first `count` of the table. A job has no heap: the table has its 64 records from the start on, and
+/// each is filled in its place.
 #[derive(Drop)]
 pub struct Ledger {
     pub records: [Record; RECORDS],
@@ -65,6 +65,13 @@ impl Ledger {
         } else {
             self.records[self.count - 1].product
         }
+    }
+
+    /// The records of the standing limits, the oldest first.
+    pub fn standing(&self) -> &[Record]
+        ensures { result.now ≡ take self.now.count self.now.records }
+    {
+        &self.records[..self.count]
     }
 
     /// One limit more.

@@ -21,7 +21,8 @@ pub enum Grade {
     MassPrice { mass: i32, price: u32 },
 }
 
-/// Where a sheet is at fault: the fault's number and layer, the record's number, and the place.
+/// Where a sheet is at fault: the fault's number and layer, the record's number, and the place. Plain numbers, as they are printed: the faults
+/// that have them are of three enums, in crates above and below this one.
 #[derive(Clone, Copy, PartialEq, Eq, Debug, Drop)]
 pub struct FaultLine {
     pub number: u8,

@@ -33,7 +33,7 @@ module _ {A : Type 0} (P Q : A → Type 0) (p : (x : A) → IsProp (P x)) (q : (
   there_prop : (o : Option A) → IsProp (There o)
   there_prop o v w = sym (back o v) ∙ ap (there o) (IsSomeAnd-prop o (λ x. P x × Q x) (λ x. ×_prop (p x) (q x)) (known o v) (known o w)) ∙ back o w
 
-under_prop : (ns : List Node) (i lim : ℕ) (r : Child) → IsProp (Under ns i lim r)
+pub under_prop : (ns : List Node) (i lim : ℕ) (r : Child) → IsProp (Under ns i lim r)
 under_prop ns i lim Terminal = Unit-prop
 under_prop ns i lim (Place k) = there_prop (λ (n : Node). i ≤ n.part) (λ n. k < lim) (λ n. le_prop) (λ n. le_prop) (slice_get ns k)
 
