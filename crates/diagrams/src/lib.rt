@@ -56,16 +56,16 @@ impl Edge {
             child: Child::Terminal,
         }
     }
+}
 
-    /// The edge with a number added to its constant.
-    pub fn plus(self, value: i32) -> Edge
-        requires { (unsigned_abs self.constant ≤ 2 ^ 28) × (unsigned_abs value ≤ 2 ^ 29) }
-        ensures { result ≡ plus_edge self value }
-    {
-        Edge {
-            constant: self.constant + value,
-            child: self.child,
-        }
+/// The edge with a number added to its constant.
+pub fn plus(edge: Edge, value: i32) -> Edge
+    requires { (unsigned_abs edge.constant ≤ 2 ^ 28) × (unsigned_abs value ≤ 2 ^ 29) }
+    ensures { result ≡ plus_edge edge value }
+{
+    Edge {
+        constant: edge.constant + value,
+        child: edge.child,
     }
 }
 

@@ -68,19 +68,6 @@ impl Draft {
         Ok(())
     }
 
-    /// A draft that has taken terms, one after another; a refused one leaves it as it was.
-    pub fn of_terms<I: Iterator<Item = Term> + Drop>(terms: I) -> Draft
-        requires can { I.can_next terms }
-        requires ends { IsFinite (I.remaining terms) }
-        ensures { DraftOf I.next_gives terms result.coefficients result.last }
-    {
-        let mut draft = Draft::open();
-        for term in terms {
-            let _ = draft.term(term);
-        }
-        draft
-    }
-
     /// The highest part that a term names, whatever its coefficient.
     pub fn last(&self) -> Option<u8>
         ensures { result ≡ self.now.last }
@@ -112,4 +99,17 @@ impl Draft {
             last: _,
         } = self;
     }
+}
+
+/// A draft that has taken terms, one after another; a refused one leaves it as it was.
+pub fn draft_of<I: Iterator<Item = Term> + Drop>(terms: I) -> Draft
+    requires can { I.can_next terms }
+    requires ends { IsFinite (I.remaining terms) }
+    ensures { DraftOf I.next_gives terms result.coefficients result.last }
+{
+    let mut draft = Draft::open();
+    for term in terms {
+        let _ = draft.term(term);
+    }
+    draft
 }

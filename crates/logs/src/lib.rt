@@ -10,7 +10,7 @@ ghost use Rattle.logs.specs.Logs.{after, Finds, lent, SolvedRight, Right, Replay
 
 use grades::{Grade, Mass, MassPrice, Wait};
 use jobs::Job;
-use limits::drafts::{Draft, Side, Term};
+use limits::drafts::{Side, Term, draft_of};
 use limits::{Choice, Refusal};
 use memories::Memory;
 use rows::{Row, RowTables, Rows};
@@ -111,7 +111,7 @@ fn close<M: Memory>(
     ensures stands { stands job.new ≡ after_close (places job.old) (stands job.old) (named terms.now) (limit_of terms.now side) }
     ensures places { places job.new ≡ places job.old }
 {
-    job.close(Draft::of_terms(terms.iter().copied()), side, memory)
+    job.close(draft_of(terms.iter().copied()), side, memory)
 }
 
 // Makes one call of the job.

@@ -13,9 +13,8 @@ ghost use Rattle.rows.specs.Readied.{ready_prop};
 
 use diagrams::{Child, Edge, Node};
 use grades::Grade;
-use tables::NodeTable;
-
 pub use lent::RowTables;
+use tables::NodeTable;
 
 mod lent;
 
@@ -80,24 +79,24 @@ impl<'a, G: Grade> Rows<'a, G> {
     {
         &*self.rows
     }
+}
 
-    /// Fills one row for each node, in the order of their places.
-    pub fn fill<'t>(&mut self, table: &'t NodeTable<'t>, weights: &'t [G::Weight])
-        requires ready { Ready G.kind (map G.weighs weights.now) (made table.now) }
-        requires enough { length (made table.now) ≤ length self.old.rows.now }
-        ensures right { RightRows G.kind G.means (map G.weighs weights.now) (made table.now) self.new.rows.now (length (made table.now)) }
-        ensures named { self.new.rows.ghost_name ≡ self.old.rows.ghost_name }
-        ensures kept { length self.new.rows.now ≡ length self.old.rows.now }
-    {
-        for k in 0..table.used() {
-            let reading = Reading {
-                table,
-                weights,
-                rows: self.shown(),
-            };
-            let row = reading.row(k);
-            self.set(k, row);
-        }
+/// Fills one row for each node, in the order of their places.
+pub fn fill<'t, G: Grade>(rows: &mut Rows<G>, table: &'t NodeTable<'t>, weights: &'t [G::Weight])
+    requires ready { Ready G.kind (map G.weighs weights.now) (made table.now) }
+    requires enough { length (made table.now) ≤ length rows.old.rows.now }
+    ensures right { RightRows G.kind G.means (map G.weighs weights.now) (made table.now) rows.new.rows.now (length (made table.now)) }
+    ensures named { rows.new.rows.ghost_name ≡ rows.old.rows.ghost_name }
+    ensures kept { length rows.new.rows.now ≡ length rows.old.rows.now }
+{
+    for k in 0..table.used() {
+        let reading = Reading {
+            table,
+            weights,
+            rows: rows.shown(),
+        };
+        let row = reading.row(k);
+        rows.set(k, row);
     }
 }
 

@@ -9,7 +9,7 @@ ghost use Rattle.sheets.specs.Told.{filled, highest, limit_of};
 
 use jobs::Job;
 use limits::Refusal;
-use limits::drafts::{Draft, Side};
+use limits::drafts::{Draft, Side, draft_of};
 use memories::Memory;
 use records::Terms;
 
@@ -18,7 +18,7 @@ fn drafted(bytes: &[u8]) -> Draft
     ensures coefficients { (ts : List LimitTerm) → LeftIn bytes.now 0 0 ts → result.coefficients ≡ filled (replicate 48 (pos 0)) ts }
     ensures last { (ts : List LimitTerm) → LeftIn bytes.now 0 0 ts → result.last ≡ highest None ts }
 {
-    Draft::of_terms(Terms::new(bytes))
+    draft_of(Terms::new(bytes))
 }
 
 /// Closes the limit of a record in the job.

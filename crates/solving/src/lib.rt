@@ -13,7 +13,7 @@ ghost use Rattle.solving.specs.Settling.{Solved, Filled, StandsAt, Turns, Settle
 use diagrams::{Child, Edge};
 use grades::Grade;
 use limits::Choice;
-use rows::{BitEdge, Reading, Rows, put_on};
+use rows::{BitEdge, Reading, Rows, fill, put_on};
 use tables::NodeTable;
 
 /// A choice with its grade.
@@ -124,7 +124,7 @@ pub fn solve<'t, G: Grade>(
     ensures named { rows.new.rows.ghost_name ≡ rows.old.rows.ghost_name }
     ensures kept { length rows.new.rows.now ≡ length rows.old.rows.now }
 {
-    rows.fill(table, weights);
+    fill(rows, table, weights);
     let reading = Reading {
         table,
         weights,

@@ -6,7 +6,7 @@ ghost use Rattle.std.specs.List.{slice_get};
 ghost use Rattle.diagrams.specs.Apply.{node_of, edge_to, fitted_edge, left_out_edge};
 ghost use Rattle.tables.specs.Buckets.{hashed, nodes_of, Clear, PlacesFit};
 
-use diagrams::{Child, Edge, Node};
+use diagrams::{Child, Edge, Node, plus};
 
 // Only so many places of a table count.
 const ROOM: usize = 60_000;
@@ -270,7 +270,7 @@ fn fitted_edge(edge: Edge, node: Node) -> Edge
 {
     Edge {
         child: node.left,
-        ..edge.plus(node.value)
+        ..plus(edge, node.value)
     }
 }
 

@@ -14,7 +14,7 @@ ghost use Rattle.walks.specs.Looks.{Ranged, CanLook, ByRange};
 ghost use Rattle.walks.specs.Walked.{CanAsk, Walked, CanSum, Summed};
 
 use arrayvec::ArrayVec;
-use diagrams::{Child, Edge, Operation, Question};
+use diagrams::{Child, Edge, Operation, Question, plus};
 use limits::Limit;
 use memories::Memory;
 use questions::{Range, decide, ranges_of, shortcut, square, within_bound};
@@ -145,7 +145,7 @@ fn chain(table: &mut NodeTable, parts: u8, coefficients: &[i32]) -> Option<Edge>
 {
     let mut e = Edge::constant(0);
     for part in (0..parts).rev() {
-        let fit = e.plus(coefficients[part as usize]);
+        let fit = plus(e, coefficients[part as usize]);
         e = table.make(part, fit, e)?;
     }
     Some(e)

@@ -7,6 +7,6 @@ pub returns : goal.returns
 returns c =
     let (e, f, g) = c.new.ensures in
     record {
-      coefficients = λ ts left. ap (λ (d : Drafted). d.coefficients) (made c.args.bytes.now c.new.result c.of_terms.result.coefficients c.of_terms.result.last e f g c.of_terms.ensures ts left);
-      last = λ ts left. ap (λ (d : Drafted). d.last) (made c.args.bytes.now c.new.result c.of_terms.result.coefficients c.of_terms.result.last e f g c.of_terms.ensures ts left);
+      coefficients = λ ts left. ap (λ (d : Drafted). d.coefficients) (made c.args.bytes.now c.new.result c.draft_of.result.coefficients c.draft_of.result.last e f g c.draft_of.ensures ts left);
+      last = λ ts left. ap (λ (d : Drafted). d.last) (made c.args.bytes.now c.new.result c.draft_of.result.coefficients c.draft_of.result.last e f g c.draft_of.ensures ts left);
     }

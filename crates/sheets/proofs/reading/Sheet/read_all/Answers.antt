@@ -35,7 +35,7 @@ returns-in-Ok-Ended-clause-is g c =
     let (rest, same_room, same_sheet, low) = c.loop-record.invariant in
     let step = rw c.in-Ok-Ended.field-0-is at c.in-Ok-Ended.ensures.is in
     rest_ended (room c.args.self.now) sheet c.loop-record.record (told_by c.loop-record.self) c.loop-record.self.reader.at total (told_by c.read_one.new.self)
-        (step_as (room c.loop-record.self) (room c.args.self.now) c.loop-record.self.reader.sheet.now sheet (told_by c.loop-record.self) c.loop-record.self.reader.at (ended (told_by c.read_one.new.self)) same_room same_sheet step) rest
+    (step_as (room c.loop-record.self) (room c.args.self.now) c.loop-record.self.reader.sheet.now sheet (told_by c.loop-record.self) c.loop-record.self.reader.at (ended (told_by c.read_one.new.self)) same_room same_sheet step) rest
 
 pub returns-in-Err-clause-is : goal.returns-in-Err-clause-is
 returns-in-Err-clause-is g c =
@@ -44,4 +44,4 @@ returns-in-Err-clause-is g c =
     let fault = c.in-Err.fault in
     let (rest, same_room, same_sheet, low) = c.loop-record.invariant in
     rest_broken (room c.args.self.now) sheet c.loop-record.record (told_by c.loop-record.self) c.loop-record.self.reader.at total (number_of fault) (layer_of fault) (place_of fault)
-        (step_as (room c.loop-record.self) (room c.args.self.now) c.loop-record.self.reader.sheet.now sheet (told_by c.loop-record.self) c.loop-record.self.reader.at (broken (number_of fault) (layer_of fault) (place_of fault)) same_room same_sheet c.in-Err.ensures.is) rest
+    (step_as (room c.loop-record.self) (room c.args.self.now) c.loop-record.self.reader.sheet.now sheet (told_by c.loop-record.self) c.loop-record.self.reader.at (broken (number_of fault) (layer_of fault) (place_of fault)) same_room same_sheet c.in-Err.ensures.is) rest

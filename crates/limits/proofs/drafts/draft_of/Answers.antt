@@ -2,7 +2,7 @@ use Rattle.std.proofs.Common.{ap, ◌∙◌}
 use Rattle.std.proofs.iter.SoFar.{exit_by}
 use Rattle.limits.specs.Drafts.{opened, with_terms}
 use Rattle.limits.proofs.Taken.{takes_one}
-use Rattle.limits.proofs.drafts.Draft.of_terms.Goals as goal
+use Rattle.limits.proofs.drafts.draft_of.Goals as goal
 
 pub loop-term-preserved : goal.loop-term-preserved
 loop-term-preserved g c =
