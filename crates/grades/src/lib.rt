@@ -59,7 +59,7 @@ pub trait Grade: Copy {
 }
 
 /// The fitted parts' grams, added up.
-#[derive(Clone, Copy, PartialEq, Eq, Debug, Drop)]
+#[derive(Clone, Copy, PartialEq, Eq, PartialOrd, Ord, Debug, Drop)]
 pub struct Mass {
     pub grams: i32,
 }
@@ -96,12 +96,12 @@ impl Grade for Mass {
     }
 
     fn ranks_no_later(&self, other: &Mass) -> bool {
-        self.grams <= other.grams
+        self <= other
     }
 }
 
 /// The longest wait for a fitted part, in days.
-#[derive(Clone, Copy, PartialEq, Eq, Debug, Drop)]
+#[derive(Clone, Copy, PartialEq, Eq, PartialOrd, Ord, Debug, Drop)]
 pub struct Wait {
     pub days: u32,
 }
@@ -138,12 +138,12 @@ impl Grade for Wait {
     }
 
     fn ranks_no_later(&self, other: &Wait) -> bool {
-        self.days <= other.days
+        self <= other
     }
 }
 
 /// The fitted parts' grams and prices, added up; the price ranks those of equal grams.
-#[derive(Clone, Copy, PartialEq, Eq, Debug, Drop)]
+#[derive(Clone, Copy, PartialEq, Eq, PartialOrd, Ord, Debug, Drop)]
 pub struct MassPrice {
     pub grams: i32,
     pub price: u32,
@@ -186,7 +186,7 @@ impl Grade for MassPrice {
     }
 
     fn ranks_no_later(&self, other: &MassPrice) -> bool {
-        self.grams < other.grams || (self.grams == other.grams && self.price <= other.price)
+        self <= other
     }
 }
 
