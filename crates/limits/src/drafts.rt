@@ -13,14 +13,14 @@ pub const MOST_COEFFICIENT: u32 = 1_000_000;
 pub const MOST_BOUND: u32 = 100_000_000;
 
 /// A part and its coefficient.
-#[derive(Clone, Copy, Drop)]
+#[derive(Clone, Copy, PartialEq, Eq, Debug, Drop)]
 pub struct Term {
     pub part: u8,
     pub coefficient: i32,
 }
 
 /// What a limit's sum is held to.
-#[derive(Clone, Copy, Drop)]
+#[derive(Clone, Copy, PartialEq, Eq, Debug, Drop)]
 pub struct Side {
     pub sense: Sense,
     pub bound: i32,

@@ -19,7 +19,7 @@ pub enum Sense {
 }
 
 /// A limit: the sum of the fitted parts' coefficients is at most, or at least, the bound.
-#[derive(Clone, Copy, Drop)]
+#[derive(Clone, Copy, PartialEq, Eq, Debug, Drop)]
 pub struct Limit {
     pub coefficients: [i32; 48],
     pub sense: Sense,
