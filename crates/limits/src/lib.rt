@@ -7,6 +7,9 @@ ghost use Rattle.limits.specs.Refusals.{number};
 
 pub mod drafts;
 
+/// A job has at most so many parts.
+pub const MOST_PARTS: usize = 48;
+
 /// Which parts are fitted: bit i of the word is 1 when part i is.
 #[derive(Clone, Copy, PartialEq, Eq, Debug, Drop)]
 pub struct Choice(pub u64);
@@ -21,7 +24,7 @@ pub enum Sense {
 /// A limit: the sum of the fitted parts' coefficients is at most, or at least, the bound.
 #[derive(Clone, Copy, PartialEq, Eq, Debug, Drop)]
 pub struct Limit {
-    pub coefficients: [i32; 48],
+    pub coefficients: [i32; MOST_PARTS],
     pub sense: Sense,
     pub bound: i32,
 }
