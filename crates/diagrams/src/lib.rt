@@ -41,6 +41,7 @@ pub struct Node {
 }
 
 /// The constant and what the child denotes, added up.
+// That the constant is small is asked where it is added to, and is no ghost field: `constant` makes an edge of any number.
 #[derive(Clone, Copy, Default, PartialEq, Eq, Debug, Drop)]
 pub struct Edge {
     pub constant: i32,
@@ -67,7 +68,7 @@ pub fn plus(edge: Edge, value: i32) -> Edge
 {
     Edge {
         constant: edge.constant + value,
-        child: edge.child,
+        ..edge
     }
 }
 

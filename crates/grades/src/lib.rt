@@ -8,6 +8,7 @@ ghost use Rattle.grades.specs.Optimal.{RuleIsFirst, RuleSettles, BestIsBest, Siz
 ghost use Rattle.grades.specs.Lawful.{mass_laws, wait_laws, mass_price_laws};
 
 // The grade of a weight has at most this size.
+// A constant of its own, though a coefficient goes as far: kinds of grade know nothing of limits.
 const MOST_SIZE: u32 = 1_000_000;
 
 /// A kind of grade.
@@ -33,6 +34,7 @@ pub trait Grade: Copy {
     ghost kind: { Kind Meaning };
 
     /// The number of the kind.
+    // A function beside the constant, since a contract of generic code can name no constant of a trait.
     fn kind_code() -> u8
         ensures { result ≡ CODE }
     {
@@ -89,6 +91,7 @@ impl Grade for Mass {
         (weight.unsigned_abs() <= MOST_SIZE).then_some(Mass { grams: *weight })
     }
 
+    // Saturating, since any two grades may be joined; the sum is exact for all sizes that the contract speaks of.
     fn join(&self, other: &Mass) -> Mass {
         Mass {
             grams: self.grams.saturating_add(other.grams),
@@ -178,6 +181,7 @@ impl Grade for MassPrice {
         })
     }
 
+    // Saturating, as the join of two masses is.
     fn join(&self, other: &MassPrice) -> MassPrice {
         MassPrice {
             grams: self.grams.saturating_add(other.grams),

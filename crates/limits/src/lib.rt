@@ -1,4 +1,4 @@
-//! Parts, choices, limits, and the refusals of a job's calls.
+//! The number of parts, choices, limits, and the refusals of a job's calls.
 #![tactic(auto)]
 
 ghost use Rattle.std.specs.Prelude.{◌≡◌};
@@ -30,6 +30,7 @@ pub struct Limit {
 }
 
 /// Why a call of a job or of a draft refuses.
+// The numbers are one list for all layers; each layer's enum has those that it refuses with.
 #[derive(Clone, Copy, PartialEq, Eq, Debug, Drop)]
 pub enum Refusal {
     PartOutOfRange = 7,
@@ -44,6 +45,7 @@ pub enum Refusal {
 
 impl Refusal {
     /// The number by which the refusal is known in listings and documents.
+    // A method and no `From` for `u8`, which would not say which number it gives.
     pub fn number(self) -> u8
         ensures { result ≡ number self }
     {
