@@ -30,7 +30,7 @@ pub trait Memory {
 }
 
 /// A table that holds nothing.
-#[derive(Clone, Copy, Default, Drop)]
+#[derive(Clone, Copy, Default, PartialEq, Eq, Debug, Drop)]
 pub struct NoMemory {}
 
 impl NoMemory {

@@ -65,7 +65,7 @@ pub fn square(q: Question) -> Option<Edge>
 
 // That both ends are small is asked where a range is used, and is no ghost field: the definitions' ranges have any ends.
 /// The least and the greatest value of a sum.
-#[derive(Clone, Copy, Default, Drop)]
+#[derive(Clone, Copy, Default, PartialEq, Eq, Debug, Drop)]
 pub struct Range {
     low: i32,
     high: i32,

@@ -101,6 +101,7 @@ fn unlink(places: &mut [Place], last: usize)
     places[bucket].head = next;
 }
 
+// Each call that changes a table says that its room stays, since a contract leaves open what it does not name.
 impl<'a> NodeTable<'a> {
     ghost use Rattle.diagrams.specs.Nodes.{From, Sound};
     ghost use Rattle.diagrams.specs.Apply.{Makes, Cofactor};
