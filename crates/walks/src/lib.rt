@@ -100,7 +100,7 @@ fn look_up<M: Memory>(table: &NodeTable, ranges: &[Range], q: Question, memory: 
 }
 
 // The answer to root, by a loop with a stack of open questions.
-// Where no answer stands, q is asked next; where one does, it belongs to the question on top of the stack, or to root.
+// While there is no answer, q is asked; an answer goes to the question on top of the stack, and is the walk's where none is open.
 // Table, parts, ranges and memory are no struct: each method on it would also have to say that the ranges and the lent table stay the same.
 fn walk<M: Memory>(
     table: &mut NodeTable,
