@@ -1,7 +1,7 @@
 -- More nodes leave what the older ones denote, and a sound table takes a new node.
-use Rattle.std.proofs.Common.{◌≡◌, ℕ, zero, suc, ◌<◌, Bool, true, false, cond, eqb, ◌⊎◌, List, [], ◌∷◌, ◌++◌, length, ℤ, pos, ◌+ℤ◌, Some, sym, refl, ap, ◌∙◌, subst, inl, inr, ⊎_elim, arith}
+use Rattle.std.proofs.Common.{◌≡◌, ℕ, zero, suc, ◌<◌, Bool, true, false, ◌⊎◌, List, [], ◌∷◌, ◌++◌, length, pos, ◌+ℤ◌, Some, sym, refl, ap, ◌∙◌, subst, inl, inr, ⊎_elim, arith}
 use Rattle.std.specs.List.{slice_get}
-use Rattle.std.proofs.lemmas.Bool.{ne_eqb}
+use Rattle.std.proofs.lemmas.Option.{slice_get_within}
 use Rattle.diagrams.specs.declared.Child.{Child}
 use Rattle.diagrams.specs.declared.Child.TheVariants.{Terminal, Place}
 use Rattle.diagrams.specs.declared.Node.{Node}
@@ -53,11 +53,6 @@ sound_push parts ns n sound low l r red new = record {
     uniq j k q (inr a) (inl b) = absurd (new k (b ∙ ap Some a.1))
     uniq j k q (inr a) (inr b) = a.0 ∙ sym b.0
 
-nth_below : (ns : List Node) (k : ℕ) (n : Node) → slice_get ns k ≡ Some n → k < length ns
-nth_below [] k n e = let z : ◌≡◌ {A = ℕ} 0 1 = cc in absurd (omega arith)
-nth_below (q ∷ ns) zero n e = omega arith
-nth_below (q ∷ ns) (suc k) n e = let h = nth_below ns k n e in omega arith
-
 under_more : (ns more : List Node) (i lim : ℕ) (r : Child) → Under ns i lim r → Under (ns ++ more) i lim r
 under_more ns more i lim Terminal u = tt
 under_more ns more i lim (Place k) u = (u.0, nth_more ns more k u.0 u.1, u.2, u.3)
@@ -65,13 +60,7 @@ under_more ns more i lim (Place k) u = (u.0, nth_more ns more k u.0 u.1, u.2, u.
 -- what stands in the table stands below its end
 under_end : (ns more : List Node) (i : ℕ) (r : Child) → From ns i r → Under (ns ++ more) i (length ns) r
 under_end ns more i Terminal f = tt
-under_end ns more i (Place k) f = (f.0, nth_more ns more k f.0 f.1, f.2, nth_below ns k f.0 f.1)
-
-pub ordered_none : (parts : ℕ) → Ordered parts []
-ordered_none parts = record { below = λ k n e. none k n e; left = λ k n e. none k n e; right = λ k n e. none k n e }
-  where
-    none : {A : Type 0} (k : ℕ) (n : Node) → slice_get [] k ≡ Some n → A
-    none k n e = let z : ◌≡◌ {A = ℕ} 0 1 = cc in absurd (omega arith)
+under_end ns more i (Place k) f = (f.0, nth_more ns more k f.0 f.1, f.2, slice_get_within ns k f.0 f.1)
 
 -- the new node stands above its children
 pub ordered_push : (parts : ℕ) (ns : List Node) (n : Node) → Ordered parts ns → n.part < parts → From ns (suc n.part) n.left → From ns (suc n.part) n.right → Ordered parts (ns ++ (n ∷ []))
@@ -80,13 +69,3 @@ ordered_push parts ns n ordered low l r = record {
   left = λ k q e. ⊎_elim (λ h. under_more ns _ _ _ _ (ordered.left k q h)) (λ h. subst (λ j. Under (ns ++ (n ∷ [])) (suc q.part) j q.left) (sym h.0) (under_end ns _ _ _ (subst (λ z. From ns (suc z.part) z.left) (sym h.1) l))) (nth_push ns n q k e);
   right = λ k q e. ⊎_elim (λ h. under_more ns _ _ _ _ (ordered.right k q h)) (λ h. subst (λ j. Under (ns ++ (n ∷ [])) (suc q.part) j q.right) (sym h.0) (under_end ns _ _ _ (subst (λ z. From ns (suc z.part) z.right) (sym h.1) r))) (nth_push ns n q k e);
 }
-
--- the other shape: newest first, an older table is a tail, and x says which parts are fitted
-abbrev pub value₁ : List Node → Child → (ℕ → Bool) → ℤ
-value₁ [] r x = pos 0
-value₁ (n ∷ older) Terminal x = pos 0
-value₁ (n ∷ older) (Place k) x =
-    cond (eqb k (length older)) (cond (x n.part) (n.value +ℤ value₁ older n.left x) (value₁ older n.right x)) (value₁ older (Place k) x)
-
-value₁_more : (n : Node) (older : List Node) (k : ℕ) (x : ℕ → Bool) → k < length older → value₁ (n ∷ older) (Place k) x ≡ value₁ older (Place k) x
-value₁_more n older k x h = rw (ne_eqb k (length older) (λ e. omega arith))

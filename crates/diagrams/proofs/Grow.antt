@@ -17,7 +17,7 @@ use Rattle.diagrams.proofs.Canonical.{value_fit, value_leave, Stands}
 use Rattle.diagrams.proofs.Extend.{nth_more, value_more, sound_push, nth_push, ordered_push}
 use Rattle.diagrams.proofs.Reached.{Denotes, stands_depends, own_table, in_own_part}
 use Rattle.diagrams.proofs.Held.{AtMost}
-use Rattle.diagrams.proofs.Steps.{allows_ext, from_lower, cofactor_skip}
+use Rattle.diagrams.proofs.Steps.{allows_ext, from_lower}
 
 pub grown_none : (ns : List Node) → Grown ns ns
 grown_none ns = record { more = []; is = sym (append_nil ns) }
@@ -98,13 +98,6 @@ edge_path a b p q i = record { constant = p i; child = q i }
 nth_last : (ns : List Node) (n : Node) → slice_get (ns ++ (n ∷ [])) (length ns) ≡ Some n
 nth_last [] n = refl
 nth_last (p ∷ ns) n = nth_last ns n
-
-pub joined_same : (ns : List Node) (i : ℕ) (fit out : Edge) → fit ≡ out → From ns (suc i) fit.child → Joined ns i fit out fit
-joined_same ns i fit out e f = record {
-  from = from_lower ns i (suc i) _ (omega arith) f;
-  fitted = (cofactor_skip ns i fit true f).equal;
-  left_out = λ c. (cofactor_skip ns i fit false f).equal c ∙ ap (λ z. edge_at ns (suc i) z c) e;
-}
 
 there : (a b v : ℤ) → b +ℤ ((a -ℤ b) +ℤ v) ≡ a +ℤ v
 there a b v = omega (arith, ints)

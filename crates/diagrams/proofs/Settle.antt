@@ -1,6 +1,6 @@
 -- A part settled, the least part, and the questions that constants answer.
 use Rattle.std.proofs.Common.{◌≡◌, ℕ, suc, ◌<◌, ◌≤◌, Bool, true, false, eqb, ◌⊎◌, List, [], ◌∷◌, ℤ, pos, ◌+ℤ◌, ◌*ℤ◌, Some, None, Option, sym, refl, ap, ◌∙◌, subst, ap₂, inl, inr, ⊎_elim, arith, MatchOption}
-use lib.IntN.{+ℤ_idr, +ℤ_assoc}
+use lib.IntN.{+ℤ_idr, +ℤ_assoc, zero-*ℤ, *ℤ-zero, *ℤ-one}
 use Rattle.std.proofs.lemmas.Bool.{cond-true, eq-eqb}
 use Rattle.std.proofs.lemmas.Int.{ints}
 use Rattle.std.specs.List.{slice_get}
@@ -63,25 +63,17 @@ compared q e l r t v parts ns fl fr = record {
   };
 }
 
-zero_times : (z : ℤ) → pos 0 *ℤ z ≡ pos 0
-zero_times z = omega (arith, ints)
-
-times_zero : (z : ℤ) → z *ℤ pos 0 ≡ pos 0
-times_zero z = omega (arith, ints)
-
 one_times : (z : ℤ) → pos 1 *ℤ z ≡ z
 one_times z = omega (arith, ints)
 
-times_one : (z : ℤ) → z *ℤ pos 1 ≡ z
-times_one z = omega (arith, ints)
-
 by_left : (a b e : Edge) (ns : List Node) (i : ℕ) (c : List Bool) → Known a b e → edge_at ns i e c ≡ edge_at ns i a c *ℤ edge_at ns i b c
-by_left a b e ns i c (t, inl (v, w)) = ap (λ z. edge_at ns i z c) w ∙ (edge_constant ns i a c t ∙ (v ∙ (sym (zero_times (edge_at ns i b c)) ∙ ap (λ z. z *ℤ edge_at ns i b c) (sym (edge_constant ns i a c t ∙ v)))))
+by_left a b e ns i c (t, inl (v, w)) = ap (λ z. edge_at ns i z c) w ∙ (edge_constant ns i a c t ∙ (v ∙ (sym (zero-*ℤ (edge_at ns i b c)) ∙ ap (λ z. z *ℤ edge_at ns i b c) (sym (edge_constant ns i a c t ∙ v)))))
 by_left a b e ns i c (t, inr (v, w)) = ap (λ z. edge_at ns i z c) w ∙ (sym (one_times (edge_at ns i b c)) ∙ ap (λ z. z *ℤ edge_at ns i b c) (sym (edge_constant ns i a c t ∙ v)))
 
 by_right : (a b e : Edge) (ns : List Node) (i : ℕ) (c : List Bool) → Known b a e → edge_at ns i e c ≡ edge_at ns i a c *ℤ edge_at ns i b c
-by_right a b e ns i c (t, inl (v, w)) = ap (λ z. edge_at ns i z c) w ∙ (edge_constant ns i b c t ∙ (v ∙ (sym (times_zero (edge_at ns i a c)) ∙ ap (λ z. edge_at ns i a c *ℤ z) (sym (edge_constant ns i b c t ∙ v)))))
-by_right a b e ns i c (t, inr (v, w)) = ap (λ z. edge_at ns i z c) w ∙ (sym (times_one (edge_at ns i a c)) ∙ ap (λ z. edge_at ns i a c *ℤ z) (sym (edge_constant ns i b c t ∙ v)))
+unfolding lib.IntN.one
+by_right a b e ns i c (t, inl (v, w)) = ap (λ z. edge_at ns i z c) w ∙ (edge_constant ns i b c t ∙ (v ∙ (sym (*ℤ-zero (edge_at ns i a c)) ∙ ap (λ z. edge_at ns i a c *ℤ z) (sym (edge_constant ns i b c t ∙ v)))))
+by_right a b e ns i c (t, inr (v, w)) = ap (λ z. edge_at ns i z c) w ∙ (sym (*ℤ-one (edge_at ns i a c)) ∙ ap (λ z. edge_at ns i a c *ℤ z) (sym (edge_constant ns i b c t ∙ v)))
 
 known_from : (a b e : Edge) (ns : List Node) (i : ℕ) → From ns i a.child → From ns i b.child → Known a b e → From ns i e.child
 known_from a b e ns i fa fb (t, inl (v, w)) = subst (λ z. From ns i z.child) (sym w) fa

@@ -1,5 +1,5 @@
 -- A node table that holds one node for each needed function and no other.
-use Rattle.std.specs.Prelude.{◌≡◌, ℕ, ◌-◌, ◌⊎◌, List, [], ◌∷◌, length, ℤ, pos, Some}
+use Rattle.std.specs.Prelude.{◌≡◌, ℕ, suc, ◌-◌, ◌⊎◌, List, [], ◌∷◌, length, ℤ, pos, Some}
 use Rattle.std.specs.List.{slice_get}
 use Rattle.limits.specs.declared.Limit.{Limit}
 use Rattle.diagrams.specs.Needs.{table, needed_all, built, needs}
@@ -15,6 +15,11 @@ In x (y ∷ ys) = (x ≡ y) ⊎ In x ys
 -- the function of the node n at Place k, as a table over the parts from n's up
 abbrev pub node_table : ℕ → List Node → ℕ → Node → List ℤ
 node_table parts ns k n = table (parts - n.part) (value ns n.part (Place k))
+
+-- the functions of the nodes from Place k up, which rest lists
+abbrev pub tables_from : ℕ → List Node → ℕ → List Node → List (List ℤ)
+tables_from parts ns k [] = []
+tables_from parts ns k (n ∷ rest) = node_table parts ns k n ∷ tables_from parts ns (suc k) rest
 
 -- the nodes are one for each function that the limits need, and no other
 pub record Holds (parts : ℕ) (ns : List Node) (ls : List Limit) : Type 0 where

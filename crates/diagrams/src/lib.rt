@@ -10,7 +10,8 @@ use limits::Sense;
 pub mod laws;
 
 /// What an edge leads to: the terminal, or the node at a place of a table.
-#[derive(Clone, Copy, Default, PartialEq, Eq, Drop)]
+// Its own enum and no `Option`: the terminal is a child that denotes 0, and not the lack of one.
+#[derive(Clone, Copy, Default, PartialEq, Eq, Debug, Drop)]
 pub enum Child {
     #[default]
     Terminal,
@@ -31,7 +32,7 @@ impl Child {
 }
 
 /// With x 1 where the part is fitted, the node denotes x(value + left) + (1 - x)right.
-#[derive(Clone, Copy, PartialEq, Eq, Drop)]
+#[derive(Clone, Copy, PartialEq, Eq, Debug, Drop)]
 pub struct Node {
     pub part: u8,
     pub value: i32,
@@ -40,7 +41,8 @@ pub struct Node {
 }
 
 /// The constant and what the child denotes, added up.
-#[derive(Clone, Copy, Default, PartialEq, Eq, Drop)]
+// That the constant is small is asked where it is added to, and is no ghost field: `constant` makes an edge of any number.
+#[derive(Clone, Copy, Default, PartialEq, Eq, Debug, Drop)]
 pub struct Edge {
     pub constant: i32,
     pub child: Child,
@@ -59,18 +61,19 @@ impl Edge {
 }
 
 /// The edge with a number added to its constant.
+// A function beside the type, since makers reach `Edge`, and no call that they reach has a condition.
 pub fn plus(edge: Edge, value: i32) -> Edge
     requires { (unsigned_abs edge.constant ≤ 2 ^ 28) × (unsigned_abs value ≤ 2 ^ 29) }
     ensures { result ≡ plus_edge edge value }
 {
     Edge {
         constant: edge.constant + value,
-        child: edge.child,
+        ..edge
     }
 }
 
 /// What is asked of two edges: whether one is at most or at least the other, as 1 or 0, or their product.
-#[derive(Clone, Copy, Default, PartialEq, Eq, Drop)]
+#[derive(Clone, Copy, Default, PartialEq, Eq, Debug, Drop)]
 pub enum Operation {
     #[default]
     AtMost,
@@ -91,7 +94,7 @@ impl From<Sense> for Operation {
 }
 
 /// An operation and its two edges.
-#[derive(Clone, Copy, Default, PartialEq, Eq, Drop)]
+#[derive(Clone, Copy, Default, PartialEq, Eq, Debug, Drop)]
 pub struct Question {
     pub operation: Operation,
     pub left: Edge,

@@ -8,6 +8,7 @@ ghost use Rattle.grades.specs.Optimal.{RuleIsFirst, RuleSettles, BestIsBest, Siz
 ghost use Rattle.grades.specs.Lawful.{mass_laws, wait_laws, mass_price_laws};
 
 // The grade of a weight has at most this size.
+// A constant of its own, though a coefficient goes as far: kinds of grade know nothing of limits.
 const MOST_SIZE: u32 = 1_000_000;
 
 /// A kind of grade.
@@ -33,6 +34,7 @@ pub trait Grade: Copy {
     ghost kind: { Kind Meaning };
 
     /// The number of the kind.
+    // A function beside the constant, since a contract of generic code can name no constant of a trait.
     fn kind_code() -> u8
         ensures { result ≡ CODE }
     {
@@ -59,7 +61,7 @@ pub trait Grade: Copy {
 }
 
 /// The fitted parts' grams, added up.
-#[derive(Clone, Copy, PartialEq, Eq, Debug, Drop)]
+#[derive(Clone, Copy, PartialEq, Eq, PartialOrd, Ord, Debug, Drop)]
 pub struct Mass {
     pub grams: i32,
 }
@@ -89,6 +91,7 @@ impl Grade for Mass {
         (weight.unsigned_abs() <= MOST_SIZE).then_some(Mass { grams: *weight })
     }
 
+    // Saturating, since any two grades may be joined; the sum is exact for all sizes that the contract speaks of.
     fn join(&self, other: &Mass) -> Mass {
         Mass {
             grams: self.grams.saturating_add(other.grams),
@@ -96,12 +99,12 @@ impl Grade for Mass {
     }
 
     fn ranks_no_later(&self, other: &Mass) -> bool {
-        self.grams <= other.grams
+        self <= other
     }
 }
 
 /// The longest wait for a fitted part, in days.
-#[derive(Clone, Copy, PartialEq, Eq, Debug, Drop)]
+#[derive(Clone, Copy, PartialEq, Eq, PartialOrd, Ord, Debug, Drop)]
 pub struct Wait {
     pub days: u32,
 }
@@ -138,12 +141,12 @@ impl Grade for Wait {
     }
 
     fn ranks_no_later(&self, other: &Wait) -> bool {
-        self.days <= other.days
+        self <= other
     }
 }
 
 /// The fitted parts' grams and prices, added up; the price ranks those of equal grams.
-#[derive(Clone, Copy, PartialEq, Eq, Debug, Drop)]
+#[derive(Clone, Copy, PartialEq, Eq, PartialOrd, Ord, Debug, Drop)]
 pub struct MassPrice {
     pub grams: i32,
     pub price: u32,
@@ -178,6 +181,7 @@ impl Grade for MassPrice {
         })
     }
 
+    // Saturating, as the join of two masses is.
     fn join(&self, other: &MassPrice) -> MassPrice {
         MassPrice {
             grams: self.grams.saturating_add(other.grams),
@@ -186,7 +190,7 @@ impl Grade for MassPrice {
     }
 
     fn ranks_no_later(&self, other: &MassPrice) -> bool {
-        self.grams < other.grams || (self.grams == other.grams && self.price <= other.price)
+        self <= other
     }
 }
 

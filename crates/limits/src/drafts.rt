@@ -4,7 +4,7 @@ ghost use Rattle.std.specs.Iterator.{IsFinite};
 ghost use Rattle.limits.specs.Refusals.{told};
 ghost use Rattle.limits.specs.Drafts.{tested, coefficients_after, last_after, DraftOf};
 
-use crate::{Limit, Refusal, Sense};
+use crate::{Limit, MOST_PARTS, Refusal, Sense};
 
 /// Coefficients go so far either way.
 pub const MOST_COEFFICIENT: u32 = 1_000_000;
@@ -13,14 +13,14 @@ pub const MOST_COEFFICIENT: u32 = 1_000_000;
 pub const MOST_BOUND: u32 = 100_000_000;
 
 /// A part and its coefficient.
-#[derive(Clone, Copy, Drop)]
+#[derive(Clone, Copy, PartialEq, Eq, Debug, Drop)]
 pub struct Term {
     pub part: u8,
     pub coefficient: i32,
 }
 
 /// What a limit's sum is held to.
-#[derive(Clone, Copy, Drop)]
+#[derive(Clone, Copy, PartialEq, Eq, Debug, Drop)]
 pub struct Side {
     pub sense: Sense,
     pub bound: i32,
@@ -28,7 +28,7 @@ pub struct Side {
 
 /// The coefficients given so far, and the highest part named. It is not `Drop`: it ends in a close or a scrap.
 pub struct Draft {
-    coefficients: [i32; 48],
+    coefficients: [i32; MOST_PARTS],
     last: Option<u8>,
     ghost whole: { length coefficients ≡ 48 },
     ghost small: { (i : ℕ) → unsigned_abs (slice_index_or coefficients i (pos 0)) ≤ 1000000 },
@@ -41,7 +41,7 @@ impl Draft {
         ensures last { result.last ≡ None }
     {
         Draft {
-            coefficients: [0; 48],
+            coefficients: [0; MOST_PARTS],
             last: None,
         }
     }
@@ -52,7 +52,7 @@ impl Draft {
         ensures coefficients { self.new.coefficients ≡ coefficients_after (tested self.old.last term.part term.coefficient) self.old.coefficients term.part term.coefficient }
         ensures last { self.new.last ≡ last_after (tested self.old.last term.part term.coefficient) self.old.last term.part }
     {
-        if term.part > 47 {
+        if term.part as usize >= MOST_PARTS {
             return Err(Refusal::PartOutOfRange);
         }
         if let Some(before) = self.last
@@ -102,6 +102,7 @@ impl Draft {
 }
 
 /// A draft that has taken terms, one after another; a refused one leaves it as it was.
+// A function beside the type, since makers reach `Draft`, and no call that they reach has a condition.
 pub fn draft_of<I: Iterator<Item = Term> + Drop>(terms: I) -> Draft
     requires can { I.can_next terms }
     requires ends { IsFinite (I.remaining terms) }

@@ -1,4 +1,4 @@
-//! Parts, choices, limits, and the refusals of a job's calls.
+//! The number of parts, choices, limits, and the refusals of a job's calls.
 #![tactic(auto)]
 
 ghost use Rattle.std.specs.Prelude.{◌≡◌};
@@ -6,6 +6,9 @@ ghost use Rattle.limits.specs.Choices.{WordsAreChoices};
 ghost use Rattle.limits.specs.Refusals.{number};
 
 pub mod drafts;
+
+/// A job has at most so many parts.
+pub const MOST_PARTS: usize = 48;
 
 /// Which parts are fitted: bit i of the word is 1 when part i is.
 #[derive(Clone, Copy, PartialEq, Eq, Debug, Drop)]
@@ -19,14 +22,15 @@ pub enum Sense {
 }
 
 /// A limit: the sum of the fitted parts' coefficients is at most, or at least, the bound.
-#[derive(Clone, Copy, Drop)]
+#[derive(Clone, Copy, PartialEq, Eq, Debug, Drop)]
 pub struct Limit {
-    pub coefficients: [i32; 48],
+    pub coefficients: [i32; MOST_PARTS],
     pub sense: Sense,
     pub bound: i32,
 }
 
 /// Why a call of a job or of a draft refuses.
+// The numbers are one list for all layers; each layer's enum has those that it refuses with.
 #[derive(Clone, Copy, PartialEq, Eq, Debug, Drop)]
 pub enum Refusal {
     PartOutOfRange = 7,
@@ -41,6 +45,7 @@ pub enum Refusal {
 
 impl Refusal {
     /// The number by which the refusal is known in listings and documents.
+    // A method and no `From` for `u8`, which would not say which number it gives.
     pub fn number(self) -> u8
         ensures { result ≡ number self }
     {

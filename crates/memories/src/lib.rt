@@ -30,7 +30,7 @@ pub trait Memory {
 }
 
 /// A table that holds nothing.
-#[derive(Clone, Copy, Default, Drop)]
+#[derive(Clone, Copy, Default, PartialEq, Eq, Debug, Drop)]
 pub struct NoMemory {}
 
 impl NoMemory {
@@ -53,13 +53,14 @@ impl Memory for NoMemory {
 }
 
 /// A question and its result.
-#[derive(Clone, Copy, Default, PartialEq, Eq, Drop)]
+#[derive(Clone, Copy, Default, PartialEq, Eq, Debug, Drop)]
 pub struct Remembered {
     question: Question,
     edge: Edge,
 }
 
 // An edge as a number, for the slot of a question.
+// By hand and by no derived `Hash`: the definition of the slot gives this number, and a hasher over the fields would give another.
 fn edge_hash(edge: Edge) -> usize
     ensures is { result ≡ edge_hash edge }
     ensures small { result < 14000000000000000 }

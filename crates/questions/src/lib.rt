@@ -10,7 +10,7 @@ ghost use Rattle.questions.specs.Products.{Squares};
 ghost use Rattle.questions.specs.Ranges.{wider, CanRange, RangesAre, SmallRange};
 
 use diagrams::{Child, Edge, Operation, Question};
-use limits::Limit;
+use limits::{Limit, MOST_PARTS};
 
 /// The edge of 1 or 0.
 pub fn constant(kept: bool) -> Edge
@@ -65,7 +65,7 @@ pub fn square(q: Question) -> Option<Edge>
 
 // That both ends are small is asked where a range is used, and is no ghost field: the definitions' ranges have any ends.
 /// The least and the greatest value of a sum.
-#[derive(Clone, Copy, Default, Drop)]
+#[derive(Clone, Copy, Default, PartialEq, Eq, Debug, Drop)]
 pub struct Range {
     low: i32,
     high: i32,
@@ -92,11 +92,12 @@ impl Range {
 }
 
 /// The ranges of the sums of the parts from each up.
-pub fn ranges_of(parts: u8, coefficients: &[i32]) -> [Range; 49]
+// Over the parts' numbers: each range is made of the one behind it in the same array, which no iterator over it shows.
+pub fn ranges_of(parts: u8, coefficients: &[i32]) -> [Range; MOST_PARTS + 1]
     requires { CanRange parts coefficients.now }
     ensures { RangesAre parts coefficients.now 0 result }
 {
-    let mut ranges = [Range::default(); 49];
+    let mut ranges = [Range::default(); MOST_PARTS + 1];
     for part in (0..parts as usize).rev() {
         ranges[part] = ranges[part + 1].wider(coefficients[part]);
     }

@@ -2,7 +2,7 @@
 use Rattle.std.specs.Prelude.{ℕ, min, List, length, take}
 use Rattle.diagrams.specs.declared.Node.{Node}
 use Rattle.tables.specs.declared.NodeTable.{NodeTable}
-use Rattle.tables.specs.Buckets.{nodes_of, PlacesFit}
+use Rattle.tables.specs.Buckets.{nodes_of}
 
 -- the table's nodes, in the order of their places
 abbrev pub made : NodeTable → List Node
@@ -11,7 +11,3 @@ made t = nodes_of (take t.used t.places.now)
 -- how many nodes the table may have
 abbrev pub room : NodeTable → ℕ
 room t = min (length t.places.now) 60000
-
--- the used places are no more than the table may have, and the chains of the buckets go through all of them
-abbrev pub Fits : NodeTable → Type 0
-Fits t = PlacesFit t.places.now t.used

@@ -16,7 +16,7 @@ const TERMINAL_PART: u8 = u8::MAX;
 
 /// A node with the link to the last earlier one of its bucket, and the link to the last one of the bucket of this place's number.
 // A link is one more than a place, or 0 for none: an `Option<u32>` takes eight bytes in place of four, and the places are lent memory.
-#[derive(Clone, Copy, Drop)]
+#[derive(Clone, Copy, PartialEq, Eq, Debug, Drop)]
 pub struct Place {
     node: Node,
     next: u32,
@@ -38,6 +38,7 @@ impl Place {
 }
 
 /// The nodes that stand in the first used ones of the lent places.
+// The count stands beside the places and is no list's own: the places are lent, so the table can have no list of its own.
 #[derive(Drop)]
 pub struct NodeTable<'a> {
     places: &'a mut [Place],
@@ -46,6 +47,7 @@ pub struct NodeTable<'a> {
 }
 
 // The bucket of a node.
+// By hand and by no derived `Hash`: the definition of the bucket gives this number, and a hasher over the fields would give another.
 #[tactic(auto, unfolding(crate::specs::Buckets::hashed))]
 fn hash(node: Node, buckets: usize) -> usize
     requires { 0 < buckets }
@@ -99,6 +101,7 @@ fn unlink(places: &mut [Place], last: usize)
     places[bucket].head = next;
 }
 
+// Each call that changes a table says that its room stays, since a contract leaves open what it does not name.
 impl<'a> NodeTable<'a> {
     ghost use Rattle.diagrams.specs.Nodes.{From, Sound};
     ghost use Rattle.diagrams.specs.Apply.{Makes, Cofactor};
@@ -133,6 +136,7 @@ impl<'a> NodeTable<'a> {
     }
 
     // The place of a node, if it stands.
+    // A loop over links and no iterator: each link is read off the place that the one before it leads to.
     fn find(&self, node: Node) -> Option<usize>
         ensures { MatchOption result ((k : ℕ) → k < self.now.used → node_at self.now.places.now k ≢ node) (λ i. (i < self.now.used) × (node_at self.now.places.now i ≡ node)) }
     {
@@ -165,6 +169,7 @@ impl<'a> NodeTable<'a> {
     }
 
     /// Keeps the first `to` nodes.
+    // A loop over places from the last one down, since only the newest node of a bucket can be taken out of it.
     pub fn truncate(&mut self, to: usize)
         requires { to ≤ self.old.used }
         ensures places { room self.new ≡ room self.old }
@@ -200,7 +205,7 @@ impl<'a> NodeTable<'a> {
         Some(edge_to(out, k))
     }
 
-    /// Whether two edges of a sound table denote one function, which is whether they are equal.
+    /// Whether two edges of a sound table denote one function, which is whether they are equal: a theorem, which this contract states.
     pub fn same(&self, a: Edge, b: Edge) -> bool
         ensures equal { (result ≡ true → a ≡ b) × (a ≡ b → result ≡ true) }
         ensures functions { (parts : ℕ) → Sound parts (made self.now) → From (made self.now) 0 a.child × From (made self.now) 0 b.child → (result ≡ true → OneFunction parts (made self.now) a b) × (OneFunction parts (made self.now) a b → result ≡ true) }

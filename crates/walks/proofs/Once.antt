@@ -1,17 +1,16 @@
 -- One question from its two settled ones.
-use Rattle.std.proofs.Common.{◌≡◌, ℕ, suc, ◌+◌, ◌-◌, ◌≤◌, min, true, false, List, ℤ, Some, sym, ◌∙◌, subst, add-one, arith}
+use Rattle.std.proofs.Common.{◌≡◌, ℕ, ◌-◌, ◌≤◌, min, true, false, List, ℤ, sym, ◌∙◌, subst, arith}
 use Rattle.diagrams.specs.declared.Edge.{Edge}
 use Rattle.diagrams.specs.declared.Question.{Question}
 use Rattle.diagrams.specs.Nodes.{From}
-use Rattle.diagrams.specs.Apply.{Makes, Joined, Top, Open, Asked, Settled, Right, Answers}
+use Rattle.diagrams.specs.Apply.{Makes, Joined, Top, Open, Asked, Settled, Right}
 use Rattle.diagrams.proofs.Grow.{grown_on, asked_grown, right_grown, settled_grown, top_grown}
 use Rattle.diagrams.proofs.Settle.{may_make, answered}
 use Rattle.diagrams.proofs.Steps.{from_lower, asked_up, asked_constants, asked_small}
 use Rattle.tables.specs.declared.NodeTable.{NodeTable}
 use Rattle.walks.specs.Stack.{Opening}
 use Rattle.tables.specs.Places.{made, Grew, Table, part_at, CanSettle}
-use Rattle.walks.specs.Walked.{Walked}
-use Rattle.tables.proofs.Tables.{top_is, grew_none}
+use Rattle.tables.proofs.Tables.{top_is}
 
 pub table_of : {parts : ℕ} {ts : List (List ℤ)} {t t' : NodeTable} → Grew parts ts t t' → Table parts ts t'
 table_of g = g.good
@@ -19,18 +18,9 @@ table_of g = g.good
 pub grew_on : {parts : ℕ} {ts : List (List ℤ)} {t t₁ t₂ : NodeTable} → Grew parts ts t t₁ → Grew parts ts t₁ t₂ → Grew parts ts t t₂
 grew_on g h = record { places = h.places ∙ g.places; grown = grown_on g.grown h.grown; good = h.good }
 
-pub next : (P : ℕ → Type 0) (j : ℕ) → P (suc j) → P (j + 1)
-next P j h = subst P (sym (add-one j)) h
-
 module _ (parts : ℕ) (ts : List (List ℤ)) (t : NodeTable) (table : Table parts ts t) (q : Question) where
   pub asked_from : (from : ℕ) → Asked parts (made t) ts from q → From (made t) 0 q.left.child × From (made t) 0 q.right.child
   asked_from from a = (from_lower (made t) 0 from _ (omega arith) a.left_in, from_lower (made t) 0 from _ (omega arith) a.right_in)
-
-  pub known : (from : ℕ) → Asked parts (made t) ts from q → (e : Edge) → Answers q e → Walked parts ts t t q (Some e)
-  known from a e k = record { grew = grew_none parts ts t table; answer = k parts (made t) (asked_from from a).0 (asked_from from a).1 }
-
-  pub held : (e : Edge) → Right parts (made t) q e → Walked parts ts t t q (Some e)
-  held e r = record { grew = grew_none parts ts t table; answer = r }
 
   pub top_of : parts ≤ 48 → (from : ℕ) → Asked parts (made t) ts from q → Open q → (j : ℕ) → j ≡ min (part_at (made t) q.left.child) (part_at (made t) q.right.child) → Top parts (made t) q j
   top_of few from a o j e = subst (Top parts (made t) q) (sym e) (top_is parts (made t) table.sound few q (asked_from from a).0 (asked_from from a).1 o (asked_constants parts (made t) ts from q a))

@@ -1,5 +1,5 @@
 -- The table after one limit more.
-use Rattle.std.proofs.Common.{◌≡◌, ℕ, zero, suc, ◌+◌, ◌-◌, ◌≤◌, List, [], ◌∷◌, ◌++◌, length, take, ℤ, true, false, Some, None, Option, MatchOption, sym, refl, ap, ◌∙◌, subst, inl, inr, ⊎_elim, add-zero, zero-add, arith, length-append, take_all}
+use Rattle.std.proofs.Common.{◌≡◌, ℕ, ◌-◌, ◌≤◌, List, ◌++◌, length, take, ℤ, true, false, Some, None, Option, MatchOption, sym, ap, ◌∙◌, ⊎_elim, zero-add, arith, length-append, take_all}
 use lib.Seq.{take-append-le}
 use Rattle.std.specs.List.{slice_get}
 use Rattle.std.specs.Option.{is_some}
@@ -11,7 +11,7 @@ use Rattle.diagrams.specs.Needs.{needed, once}
 use Rattle.diagrams.specs.Nodes.{value}
 use Rattle.diagrams.specs.Held.{In, node_table}
 use Rattle.diagrams.proofs.Tables.{table_ext, in_left, in_right, in_either}
-use Rattle.diagrams.proofs.Held.{node_once, AtMost, at_least}
+use Rattle.diagrams.proofs.Held.{node_once, in_tables, made_at, AtMost, at_least}
 use Rattle.diagrams.proofs.Grow.{value_grown, nth_grown}
 use Rattle.tables.specs.declared.NodeTable.{NodeTable}
 use Rattle.limits.specs.declared.Limit.{Limit}
@@ -20,23 +20,7 @@ use Rattle.walks.specs.Extended.{kept, Builds, Built, tables_from, limit_needs, 
 use Rattle.std.proofs.lemmas.Option.{slice_get_within}
 use Rattle.tables.proofs.Tables.{made_length}
 
-in_tables : (parts : ℕ) (ns : List Node) (k j : ℕ) (rest : List Node) (n : Node) → slice_get rest j ≡ Some n → In (node_table parts ns (k + j) n) (tables_from parts ns k rest)
-in_tables parts ns k j [] n e = let z : ◌≡◌ {A = ℕ} 0 1 = cc in absurd (omega arith)
-in_tables parts ns k zero (q ∷ rest) n e = let h : n ≡ q = cc in inl (rw add-zero (ap (node_table parts ns k) h))
-in_tables parts ns k (suc j) (q ∷ rest) n e = let z : suc k + j ≡ k + suc j = omega arith in inr (subst (λ i. In (node_table parts ns i n) (tables_from parts ns (suc k) rest)) z (in_tables parts ns (suc k) j rest n e))
-
-abbrev MadeAt : ℕ → List Node → ℕ → List Node → List ℤ → Type 0
-MadeAt parts ns k rest t = (j : ℕ) × (n : Node) × (slice_get rest j ≡ Some n) × (t ≡ node_table parts ns (k + j) n)
-
-made_at : (parts : ℕ) (ns : List Node) (k : ℕ) (rest : List Node) (t : List ℤ) → In t (tables_from parts ns k rest) → MadeAt parts ns k rest t
-made_at parts ns k [] t m = absurd m
-made_at parts ns k (n ∷ rest) t (inl e) = (0, n, refl, rw add-zero e)
-made_at parts ns k (n ∷ rest) t (inr m) = let h = made_at parts ns (suc k) rest t m in let z : suc k + h.0 ≡ k + suc h.0 = omega arith in (suc h.0, h.1, h.2, h.3 ∙ ap (λ j. node_table parts ns j h.1) z)
-
 module _ {parts : ℕ} {t : NodeTable} (product : Edge) (l : Limit) (s : SoundTable parts t) where
-  abbrev ts : List (List ℤ)
-  ts = all_needs parts t product l
-
   pub builds : Builds parts (all_needs parts t product l) t product l
   builds = record {
     table = record { sound = s.sound; ordered = s.ordered; small = s.small; within = λ k n e. in_left _ (tables_from parts (made t) 0 (made t)) _ (rw zero-add at (in_tables parts (made t) 0 k (made t) n e)) };

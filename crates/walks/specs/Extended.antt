@@ -1,5 +1,5 @@
 -- A limit more: what is built for it, and what the table holds then.
-use Rattle.std.specs.Prelude.{◌≡◌, ℕ, suc, ◌^◌, ◌<◌, ◌≤◌, Bool, List, [], ◌∷◌, ◌++◌, length, ℤ, pos, ◌*ℤ◌, Some, Option, MatchOption, slice_index_or, unsigned_abs}
+use Rattle.std.specs.Prelude.{◌≡◌, ℕ, ◌^◌, ◌<◌, ◌≤◌, Bool, List, ◌++◌, length, ℤ, pos, ◌*ℤ◌, Some, Option, MatchOption, slice_index_or, unsigned_abs}
 use Rattle.std.specs.List.{slice_get}
 use Rattle.diagrams.specs.declared.Edge.{Edge}
 use Rattle.diagrams.specs.declared.Node.{Node}
@@ -7,6 +7,7 @@ use Rattle.limits.specs.Limits.{sum, keeps}
 use Rattle.diagrams.specs.Needs.{needed, once, indicator}
 use Rattle.diagrams.specs.Nodes.{From, Sound, Ordered}
 use Rattle.diagrams.specs.Held.{In, node_table}
+pub use Rattle.diagrams.specs.Held.{tables_from}
 use Rattle.diagrams.specs.Apply.{edge_at, Bit, Grown, Allows}
 use Rattle.tables.specs.declared.NodeTable.{NodeTable}
 use Rattle.limits.specs.declared.Limit.{Limit}
@@ -38,11 +39,6 @@ pub record Builds (parts : ℕ) (ts : List (List ℤ)) (t : NodeTable) (product 
 -- nodes may be made, of some functions
 abbrev pub CanBuild : ℕ → NodeTable → Edge → Limit → Type 0
 CanBuild parts t product l = (ts : List (List ℤ)) × Builds parts ts t product l
-
--- the functions of the nodes
-abbrev pub tables_from : ℕ → List Node → ℕ → List Node → List (List ℤ)
-tables_from parts ns k [] = []
-tables_from parts ns k (n ∷ rest) = node_table parts ns k n ∷ tables_from parts ns (suc k) rest
 
 -- what the limit needs: its sum, its test and the product
 abbrev pub limit_needs : ℕ → NodeTable → Edge → Limit → List (List ℤ)

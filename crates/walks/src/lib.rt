@@ -15,7 +15,7 @@ ghost use Rattle.walks.specs.Walked.{CanAsk, Walked, CanSum, Summed};
 
 use arrayvec::ArrayVec;
 use diagrams::{Child, Edge, Operation, Question, plus};
-use limits::Limit;
+use limits::{Limit, MOST_PARTS};
 use memories::Memory;
 use questions::{Range, decide, ranges_of, shortcut, square, within_bound};
 use tables::NodeTable;
@@ -64,7 +64,11 @@ impl Frame {
 }
 
 // Opens q: the question with its least part fitted is asked next.
-fn open_question(table: &NodeTable, stack: &mut ArrayVec<Frame, 48>, q: Question) -> Question
+fn open_question(
+    table: &NodeTable,
+    stack: &mut ArrayVec<Frame, MOST_PARTS>,
+    q: Question,
+) -> Question
     requires { CanOpen table.now stack.old.items q }
     ensures { Went table.now q stack.old.items stack.new.items result }
 {
@@ -96,7 +100,8 @@ fn look_up<M: Memory>(table: &NodeTable, ranges: &[Range], q: Question, memory: 
 }
 
 // The answer to root, by a loop with a stack of open questions.
-// Table, ranges and memory are no struct: each method on it would also have to say that the ranges and the lent table stay the same.
+// While there is no answer, q is asked; an answer goes to the question on top of the stack, and is the walk's where none is open.
+// Table, parts, ranges and memory are no struct: each method on it would also have to say that the ranges and the lent table stay the same.
 fn walk<M: Memory>(
     table: &mut NodeTable,
     parts: u8,
@@ -111,7 +116,7 @@ fn walk<M: Memory>(
     ensures done { (ts : List (List ℤ)) → Table parts ts table.old → Asked parts (made table.old) ts 0 root → Walked parts ts table.old table.new root result }
     ensures right { AllRight M.holds memory.new parts (made table.new) }
 {
-    let mut stack: ArrayVec<Frame, 48> = ArrayVec::new();
+    let mut stack: ArrayVec<Frame, MOST_PARTS> = ArrayVec::new();
     let mut q = root;
     let mut answer: Option<Edge> = None;
     loop {
@@ -139,6 +144,7 @@ fn walk<M: Memory>(
 }
 
 // The sum, without a bound.
+// Over the parts' numbers, since the table makes the node of a part by its number.
 fn chain(table: &mut NodeTable, parts: u8, coefficients: &[i32]) -> Option<Edge>
     requires { CanSum parts table.old coefficients.now }
     ensures { (ts : List (List ℤ)) → Table parts ts table.old → Allows ts parts (sum coefficients.now) → Summed parts ts table.old table.new coefficients.now result }
@@ -152,6 +158,7 @@ fn chain(table: &mut NodeTable, parts: u8, coefficients: &[i32]) -> Option<Edge>
 }
 
 // Makes the limit's sum, its test and the product, in this order.
+// What it shares with `extend` is no struct: only these two have it, and their contracts speak of each of the five alone.
 fn build<M: Memory>(
     table: &mut NodeTable,
     parts: u8,
