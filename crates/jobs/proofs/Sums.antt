@@ -8,9 +8,6 @@ use Rattle.limits.specs.Choices.{bits}
 use Rattle.jobs.specs.Calls.{broken}
 use Rattle.jobs.specs.declared.ledger.Record.{Record}
 
-sum_none : (c : List Bool) → sum [] c ≡ pos 0
-sum_none c = refl
-
 sum_at : (cs : List ℤ) (k : ℕ) (x : Bool) (c : List Bool) → sum (drop k cs) (x ∷ c) ≡ cond x (get_or cs k (pos 0)) (pos 0) +ℤ sum (drop (suc k) cs) c
 sum_at [] zero true c = refl
 sum_at [] zero false c = refl
