@@ -22,6 +22,7 @@ impl<'a> Job<'a> {
         ensures { result ≡ sum limit.now.coefficients (bits self.now.parts choice.0) }
     {
         let mut total = 0i64;
+        // The word is halved beside the coefficients, as `bits` reads a word.
         let mut rest = choice.0;
         for coefficient in &limit.coefficients[..self.parts as usize] {
             total += taken(coefficient, rest % 2 == 1);
