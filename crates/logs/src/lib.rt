@@ -19,7 +19,7 @@ use tables::Place;
 
 /// The weights of a solve: by one of the three kinds, or by a further one whose weights are `W`.
 // The kinds are told apart here, since one log mixes them and their weights are of different types.
-#[derive(Drop)]
+#[derive(Clone, Copy, PartialEq, Eq, Debug, Drop)]
 pub enum Weights<'a, W> {
     Mass(&'a [i32]),
     Wait(&'a [u32]),
