@@ -46,11 +46,9 @@ impl<'a> Job<'a> {
     pub(crate) fn first_broken(&self, choice: Choice) -> Option<usize>
         ensures { broken 0 (limits_of self.now.ledger.records self.now.ledger.count) (bits self.now.parts choice.0) ≡ result }
     {
-        for (i, record) in self.ledger.standing().iter().enumerate() {
-            if !self.is_kept(&record.limit, choice) {
-                return Some(i);
-            }
-        }
-        None
+        self.ledger
+            .standing()
+            .iter()
+            .position(|record| !self.is_kept(&record.limit, choice))
     }
 }
