@@ -28,7 +28,7 @@ pub enum Weights<'a, W> {
 }
 
 /// A call of a job. A close opens a draft, gives it the terms, of which refused ones leave it as it was, and closes it.
-#[derive(Drop)]
+#[derive(Clone, Copy, Drop)]
 pub enum Call<'a, W> {
     Begin(u8),
     Close(&'a [Term], Side),
