@@ -15,7 +15,7 @@ use Rattle.jobs.specs.Books.{Held, Books, limits_of, product_of}
 use Rattle.jobs.specs.Calls.{standing, tested, closed, if_done, after_close}
 use Rattle.jobs.specs.declared.ledger.Record.{Record}
 use Rattle.jobs.proofs.Grown.{more_held, refused_needs}
-use Rattle.jobs.proofs.Kept.{top_held, more_needs, more_books, more_limits, limits_length, closed_refused, closed_rest, passed}
+use Rattle.jobs.proofs.Kept.{top_held, more_needs, more_books, more_limits, limits_length, closed_rest, passed}
 use Rattle.jobs.proofs.Ready.{begins}
 
 -- a reply settles what stands
@@ -25,9 +25,6 @@ stands_by room parts ls named l r e = ap (λ x. if_done x (standing parts (ls ++
 module _ (parts : ℕ) (t : NodeTable) (rs : List Record) (count : ℕ) (p : Edge) (l : Limit) (named : Option ℕ) (books : ∥ Books parts (made t) rs count ∥₁) (p-is : p ≡ product_of rs count) (few : parts ≤ 48) (whole : length rs ≡ 64) (count-few : count ≤ 64) where
   size : length (limits_of rs count) ≡ count
   size = limits_length rs count (omega arith)
-
-  pub refused_reply : (n : ℕ) → refused n ≡ tested parts count named l.bound → refused n ≡ closed (room t) (standing parts (limits_of rs count)) named l
-  refused_reply n e = closed_refused (room t) parts count (limits_of rs count) named l n size e
 
   module _ (tests : done ≡ tested parts count named l.bound) where
     pub may_begin : ((i : ℕ) → nat_abs (get_or l.coefficients i (pos 0)) ≤ 1000000) → Begins parts t p l

@@ -1,6 +1,5 @@
 -- From what the walk does with one limit's three functions to what a job's table holds.
-use Rattle.std.proofs.Common.{◌≡◌, ℕ, zero, suc, ◌+◌, ◌-◌, ◌<◌, Bool, true, false, cond, not, ◌&&◌, List, [], ◌∷◌, ◌++◌, length, replicate, ℤ, pos, ◌+ℤ◌, ◌-ℤ◌, ◌*ℤ◌, Some, sym, refl, ap, ◌∙◌, subst, ap₂, inl, inr, ⊎_elim, append-nil, add-zero, zero-add, arith}
-use lib.ListN.{length-replicate}
+use Rattle.std.proofs.Common.{◌≡◌, ℕ, zero, suc, ◌+◌, ◌-◌, ◌<◌, Bool, true, false, ◌&&◌, List, [], ◌∷◌, ◌++◌, length, ℤ, pos, ◌+ℤ◌, ◌*ℤ◌, Some, sym, refl, ap, ◌∙◌, subst, inl, inr, ⊎_elim, append-nil, add-zero, zero-add, arith}
 use Rattle.std.specs.List.{slice_get}
 use Rattle.std.proofs.lemmas.Bool.{cases_lt}
 use Rattle.limits.specs.declared.Limit.{Limit}
@@ -9,26 +8,18 @@ use Rattle.diagrams.specs.declared.Node.{Node}
 use Rattle.diagrams.specs.declared.Edge.{Edge}
 use Rattle.diagrams.specs.declared.Child.{Child}
 use Rattle.diagrams.specs.declared.Child.TheVariants.{Terminal, Place}
-use Rattle.diagrams.specs.Needs.{table, less, depends, needed, needed_all, built, needs, indicator, same_table}
+use Rattle.diagrams.specs.Needs.{needed, needed_all, built, needs, indicator}
 use Rattle.diagrams.specs.Nodes.{value, From, Under}
 use Rattle.diagrams.specs.Held.{In, node_table}
 use Rattle.diagrams.proofs.Tables.{table_ext, in_left, in_right, in_either}
 use Rattle.diagrams.proofs.Grow.{nth_grown, value_grown}
 use Rattle.diagrams.proofs.Needed.{product_from, built_more, needed_more, once_less}
+use Rattle.diagrams.proofs.Steps.{needed_ext}
 use Rattle.tables.specs.declared.NodeTable.{NodeTable}
 use Rattle.tables.specs.Chains.{made, room}
 use Rattle.std.proofs.lemmas.Option.{slice_get_within}
 use Rattle.walks.specs.Extended.{tables_from, limit_needs, all_needs, Extended, Refused}
 use Rattle.jobs.specs.Books.{Held}
-
-needed_ext : (n : ℕ) (f g : List Bool → ℤ) → ((c : List Bool) → length c ≡ n → f c ≡ g c) → needed n f ≡ needed n g
-needed_ext zero f g h = refl
-needed_ext (suc n) f g h =
-    let ho : (c : List Bool) → length c ≡ n → f (false ∷ c) ≡ g (false ∷ c) = λ c e. h (false ∷ c) (ap suc e) in
-    let hf : (c : List Bool) → length c ≡ n → f (true ∷ c) ≡ g (true ∷ c) = λ c e. h (true ∷ c) (ap suc e) in
-    let dep : depends n f ≡ depends n g = ap₂ (λ a b. not (same_table a b)) (table_ext n (λ c. f (false ∷ c)) (λ c. g (false ∷ c)) ho) (table_ext n (λ c. f (true ∷ c)) (λ c. g (true ∷ c)) hf) in
-    let own : table (suc n) (less (suc n) f) ≡ table (suc n) (less (suc n) g) = table_ext (suc n) (less (suc n) f) (less (suc n) g) (λ c e. ap₂ ◌-ℤ◌ (h c e) (h (replicate (suc n) false) (length-replicate (suc n) false))) in
-    ap₂ (λ x y. x ++ y) (ap₂ (λ b t. cond b (t ∷ []) []) dep own) (ap₂ ◌++◌ (needed_ext n (λ c. f (false ∷ c)) (λ c. g (false ∷ c)) ho) (needed_ext n (λ c. f (true ∷ c)) (λ c. g (true ∷ c)) hf))
 
 times : (x y : Bool) → indicator x *ℤ indicator y ≡ indicator (x && y)
 times true true = refl

@@ -134,10 +134,6 @@ limits_length [] (suc k) h = absurd (omega arith)
 limits_length (r ∷ rs) (suc k) h = ap suc (limits_length rs k (omega arith))
 
 -- close's replies
-pub closed_refused : (room parts count : ℕ) (ls : List Limit) (named : Option ℕ) (l : Limit) (n : ℕ) → length ls ≡ count → refused n ≡ tested parts count named l.bound → refused n ≡ closed room (standing parts ls) named l
-closed_refused room parts count ls named l n e h =
-    ap (λ r. and_then r (cond (leb (needs parts (ls ++ (l ∷ []))) room) done (refused 15))) (h ∙ ap (λ m. tested parts m named l.bound) (sym e))
-
 pub closed_rest : (room parts count : ℕ) (ls : List Limit) (named : Option ℕ) (l : Limit) → length ls ≡ count → done ≡ tested parts count named l.bound → cond (leb (needs parts (ls ++ (l ∷ []))) room) done (refused 15) ≡ closed room (standing parts ls) named l
 closed_rest room parts count ls named l e h =
     ap (λ r. and_then r (cond (leb (needs parts (ls ++ (l ∷ []))) room) done (refused 15))) (h ∙ ap (λ m. tested parts m named l.bound) (sym e))

@@ -1,15 +1,14 @@
 -- A limit's sum, part by part.
-use Rattle.std.proofs.Common.{◌≡◌, ℕ, zero, suc, ◌+◌, ◌-◌, ◌*◌, ◌/◌, ◌%◌, ◌^◌, ◌<◌, ◌≤◌, Bool, true, false, cond, eqb, List, [], ◌∷◌, map, length, get_or, take, drop, ℤ, pos, ◌+ℤ◌, nat_abs, Some, None, Option, sym, refl, ap, ◌∙◌, ap₂, add-one, arith, w64, SFits, to_z, of_z}
+use Rattle.std.proofs.Common.{◌≡◌, ℕ, zero, suc, ◌+◌, ◌-◌, ◌*◌, ◌/◌, ◌%◌, ◌^◌, ◌<◌, ◌≤◌, Bool, true, false, cond, not, ltb, eqb, List, [], ◌∷◌, map, length, get_or, take, drop, ℤ, pos, ◌+ℤ◌, nat_abs, Some, None, sym, refl, ap, ◌∙◌, ap₂, add-one, arith, w64, SFits, to_z, of_z}
 use lib.IntN.{+ℤ_idr, +ℤ_assoc}
 use Rattle.std.proofs.lemmas.Int.{ints, to_z-of_z}
-use Rattle.std.proofs.lemmas.List.{drop_all, drop_more, get_or-map, length-map}
+use Rattle.std.proofs.lemmas.Bool.{lt-ltb}
+use Rattle.std.proofs.lemmas.Bool.Decides.{nat_tests}
+use Rattle.std.specs.List.{position_or_len}
 use Rattle.limits.specs.Limits.{sum, keeps}
 use Rattle.limits.specs.Choices.{bits}
 use Rattle.jobs.specs.Calls.{broken}
 use Rattle.jobs.specs.declared.ledger.Record.{Record}
-
-sum_none : (c : List Bool) → sum [] c ≡ pos 0
-sum_none c = refl
 
 sum_at : (cs : List ℤ) (k : ℕ) (x : Bool) (c : List Bool) → sum (drop k cs) (x ∷ c) ≡ cond x (get_or cs k (pos 0)) (pos 0) +ℤ sum (drop (suc k) cs) c
 sum_at [] zero true c = refl
@@ -60,21 +59,16 @@ module _ (i parts : ℕ) (z total add : ℤ) (e : z ≡ total) (s : nat_abs tota
   pub sum_small : nat_abs (to_z w64 (of_z w64 (z +ℤ to_z w64 (of_z w64 add)))) ≤ (i + 1) * 2 ^ 31
   sum_small = rw sum_is (abs_sum i parts total add s t)
 
--- the limits of records, one by one; d is what stands past the last
-limits_at : (xs : List Record) (i : ℕ) (d : Record) → i < length xs → drop i (map (λ (r : Record). r.limit) xs) ≡ (get_or xs i d).limit ∷ drop (i + 1) (map (λ (r : Record). r.limit) xs)
-limits_at xs i d h =
-    drop_more (map (λ (r : Record). r.limit) xs) i d.limit (omega (arith, length-map xs (λ (r : Record). r.limit)))
-    ∙ ap (λ x. x ∷ drop (i + 1) (map (λ (r : Record). r.limit) xs)) (get_or-map (λ (r : Record). r.limit) xs i d d.limit h)
+-- one element more before the place, and one more in the list
+next_test : (p n : ℕ) → ltb p n ≡ ltb (1 + p) (suc n)
+next_test p n = grind (arith, nat_tests)
 
-module _ (xs : List Record) (i : ℕ) (c : List Bool) (o : Option ℕ) (e : o ≡ broken i (drop i (map (λ (r : Record). r.limit) xs)) c) where
-  pub broken_more : (d : Record) → i < length xs → keeps (get_or xs i d).limit c ≡ true → o ≡ broken (i + 1) (drop (i + 1) (map (λ (r : Record). r.limit) xs)) c
-  broken_more d h k =
-      e ∙ (ap (λ ls. broken i ls c) (limits_at xs i d h)
-      ∙ (ap (λ b. cond b (broken (suc i) (drop (i + 1) (map (λ (r : Record). r.limit) xs)) c) (Some i)) k ∙ ap (λ j. broken j (drop (i + 1) (map (λ (r : Record). r.limit) xs)) c) (sym (add-one i))))
-
-  pub broken_here : (d : Record) → i < length xs → keeps (get_or xs i d).limit c ≡ false → o ≡ Some i
-  broken_here d h k =
-      e ∙ (ap (λ ls. broken i ls c) (limits_at xs i d h) ∙ ap (λ b. cond b (broken (suc i) (drop (i + 1) (map (λ (r : Record). r.limit) xs)) c) (Some i)) k)
-
-  pub broken_none : length xs ≤ i → o ≡ None
-  broken_none h = e ∙ ap (λ ls. broken i ls c) (drop_all i (map (λ (r : Record). r.limit) xs) (omega (arith, length-map xs (λ (r : Record). r.limit))))
+-- the first broken limit is the first record's whose limit the choice does not keep
+pub broken_is : (i : ℕ) (rs : List Record) (c : List Bool) → broken i (map (λ (r : Record). r.limit) rs) c ≡ cond (ltb (position_or_len (λ (r : Record). not (keeps r.limit c)) rs) (length rs)) (Some (i + position_or_len (λ (r : Record). not (keeps r.limit c)) rs)) None
+broken_is i [] c = refl
+broken_is i (r ∷ rs) c = go (keeps r.limit c) (position_or_len (λ (r : Record). not (keeps r.limit c)) rs) (broken_is (suc i) rs c)
+  where
+    go : (b : Bool) (p : ℕ) → broken (suc i) (map (λ (r : Record). r.limit) rs) c ≡ cond (ltb p (length rs)) (Some (suc i + p)) None
+        → cond b (broken (suc i) (map (λ (r : Record). r.limit) rs) c) (Some i) ≡ cond (ltb (cond (not (not b)) (1 + p) 0) (suc (length rs))) (Some (i + cond (not (not b)) (1 + p) 0)) None
+    go true p e = e ∙ ap₂ (λ b n. cond b (Some n) None) (next_test p (length rs)) (omega arith)
+    go false p e = ap Some (omega arith) ∙ sym (ap (λ b. cond b (Some (i + 0)) None) (lt-ltb 0 (suc (length rs)) (omega arith)))

@@ -1,5 +1,6 @@
 -- A job's calls: what each answers, and what stands after it.
-use Rattle.std.specs.Prelude.{ℕ, suc, ◌/◌, ◌^◌, Bool, true, false, cond, ◌&&◌, List, [], ◌∷◌, ◌++◌, length, ℤ, Some, None, Option, ◌==◌, nat_le, nat_lt, unsigned_abs}
+use Rattle.std.specs.Prelude.{ℕ, suc, ◌/◌, ◌^◌, Bool, true, false, cond, List, [], ◌∷◌, ◌++◌, length, ℤ, Some, None, Option, ◌==◌, nat_le, nat_lt, unsigned_abs}
+use Rattle.std.specs.List.{list_all}
 use Rattle.limits.specs.declared.Limit.{Limit}
 use Rattle.limits.specs.Limits.{keeps}
 use Rattle.limits.specs.Refusals.{Reply, done, refused}
@@ -73,8 +74,7 @@ after_take_back s = standing s.parts (but_last s.limits)
 
 -- all weights are in range
 abbrev pub all_in_range : {G : Type 0} → Kind G → List G → Bool
-all_in_range K [] = true
-all_in_range K (w ∷ ws) = nat_le (K.size w) 1000000 && all_in_range K ws
+all_in_range K = list_all (λ w. nat_le (K.size w) 1000000)
 
 -- solve is tested for the number of weights (10), their range (9), and fewer rows than used nodes (11), in that order
 abbrev pub asked : {G : Type 0} → Kind G → Standing → List G → ℕ → Reply

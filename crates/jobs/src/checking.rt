@@ -22,6 +22,7 @@ impl<'a> Job<'a> {
         ensures { result ≡ sum limit.now.coefficients (bits self.now.parts choice.0) }
     {
         let mut total = 0i64;
+        // The word is halved beside the coefficients, as `bits` reads a word.
         let mut rest = choice.0;
         for coefficient in &limit.coefficients[..self.parts as usize] {
             total += taken(coefficient, rest % 2 == 1);
@@ -45,11 +46,9 @@ impl<'a> Job<'a> {
     pub(crate) fn first_broken(&self, choice: Choice) -> Option<usize>
         ensures { broken 0 (limits_of self.now.ledger.records self.now.ledger.count) (bits self.now.parts choice.0) ≡ result }
     {
-        for (i, record) in self.ledger.standing().iter().enumerate() {
-            if !self.is_kept(&record.limit, choice) {
-                return Some(i);
-            }
-        }
-        None
+        self.ledger
+            .standing()
+            .iter()
+            .position(|record| !self.is_kept(&record.limit, choice))
     }
 }

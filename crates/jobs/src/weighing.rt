@@ -8,10 +8,5 @@ use grades::Grade;
 pub fn in_range<G: Grade>(weights: &[G::Weight]) -> bool
     ensures { result ≡ all_in_range G.kind (map G.weighs weights.now) }
 {
-    for weight in weights {
-        if G::of_weight(weight).is_none() {
-            return false;
-        }
-    }
-    true
+    weights.iter().all(|weight| G::of_weight(weight).is_some())
 }

@@ -1,15 +1,10 @@
 -- A log, one call after another.
-use Rattle.std.proofs.Common.{◌≡◌, ℕ, zero, suc, ◌+◌, ◌<◌, List, [], ◌∷◌, ◌++◌, length, get_or, take, drop, set, sym, refl, ap, ◌∙◌, subst, append_assoc, append-nil, add-one, arith}
-use Rattle.std.proofs.lemmas.List.{drop_more, drop_all}
+use Rattle.std.proofs.Common.{◌≡◌, ℕ, ◌+◌, ◌<◌, List, [], ◌∷◌, ◌++◌, length, get_or, take, drop, set, sym, ap, ◌∙◌, subst, append_assoc, append-nil, arith}
+use Rattle.std.proofs.lemmas.List.{drop_more, drop_all, take_more_set}
 use Rattle.grades.specs.Laws.{Kind}
 use Rattle.jobs.specs.Calls.{Standing, standing}
 use Rattle.logs.specs.Logs.{after, Lent, Reply, Right, RightLog}
 use Rattle.logs.specs.declared.Call.{Call}
-
-take_set : {A : Type 0} (xs : List A) (i : ℕ) (y : A) → i < length xs → take (suc i) (set xs i y) ≡ take i xs ++ (y ∷ [])
-take_set [] i y h = absurd (omega arith)
-take_set (x ∷ xs) zero y h = refl
-take_set (x ∷ xs) (suc i) y h = ap (λ zs. x ∷ zs) (take_set xs i y (omega arith))
 
 module _ {V G W : Type 0} (K : Kind V) (means : G → V) (weighs : W → V) (places : ℕ) (rows : Lent) (calls : List (Call W)) where
   -- s stands after the first i calls: whatever answers are right from there on make a right log with those before
@@ -29,7 +24,7 @@ module _ {V G W : Type 0} (K : Kind V) (means : G → V) (weighs : W → V) (pla
       (right_there, subst (λ u. RightLog K means weighs places rows u (drop (i + 1) calls) rs) st-there later) in
       let join : take i replies ++ (r ∷ rs) ≡ take (i + 1) more ++ rs =
       sym (append_assoc (take i replies) (r ∷ []) rs)
-      ∙ ap (λ xs. xs ++ rs) (sym (ap (λ n. take n more) (add-one i) ∙ (ap (take (suc i)) w ∙ take_set replies i r k))) in
+      ∙ ap (λ xs. xs ++ rs) (sym (ap (take (i + 1)) w ∙ take_more_set replies i r k)) in
       subst (RightLog K means weighs places rows (standing 0 []) calls) join (before (r ∷ rs) kept)
 
   pub none_yet : (replies : List (Reply G)) (s : Standing) → s ≡ standing 0 [] → SoFar replies s 0

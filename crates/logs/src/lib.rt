@@ -18,7 +18,8 @@ use solving::Answer;
 use tables::Place;
 
 /// The weights of a solve: by one of the three kinds, or by a further one whose weights are `W`.
-#[derive(Drop)]
+// The kinds are told apart here, since one log mixes them and their weights are of different types.
+#[derive(Clone, Copy, PartialEq, Eq, Debug, Drop)]
 pub enum Weights<'a, W> {
     Mass(&'a [i32]),
     Wait(&'a [u32]),
@@ -27,7 +28,7 @@ pub enum Weights<'a, W> {
 }
 
 /// A call of a job. A close opens a draft, gives it the terms, of which refused ones leave it as it was, and closes it.
-#[derive(Drop)]
+#[derive(Clone, Copy, Drop)]
 pub enum Call<'a, W> {
     Begin(u8),
     Close(&'a [Term], Side),
@@ -37,7 +38,8 @@ pub enum Call<'a, W> {
 }
 
 /// What a solve finds, by the kind of its weights; none where nothing fits.
-#[derive(Clone, Copy)]
+// One log mixes the kinds, so each answer says by which it is.
+#[derive(Clone, Copy, PartialEq, Eq, Debug)]
 pub enum Found<G> {
     Mass(Option<Answer<Mass>>),
     Wait(Option<Answer<Wait>>),
@@ -46,7 +48,7 @@ pub enum Found<G> {
 }
 
 /// What a call answers that is not refused: that it is done, what a solve finds, or the first limit that a choice breaks.
-#[derive(Clone, Copy)]
+#[derive(Clone, Copy, PartialEq, Eq, Debug)]
 pub enum Answered<G> {
     Done,
     Solved(Found<G>),
@@ -159,6 +161,7 @@ pub fn replay<M: Memory, G: Grade>(
         return Err(ReplayRefusal::RepliesTooShort);
     }
     let mut job = Job::new(node_places);
+    // The number names the place of the reply; the calls and the places for replies are lent apart, and more places may be lent.
     for (i, call) in calls.iter().enumerate() {
         put(replies, i, perform(&mut job, call, rows, memory));
     }

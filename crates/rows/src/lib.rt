@@ -82,6 +82,7 @@ impl<'a, G: Grade> Rows<'a, G> {
 }
 
 /// Fills one row for each node, in the order of their places.
+// A function and no method: makers reach `Rows`, and no call that they reach has a condition.
 pub fn fill<'t, G: Grade>(rows: &mut Rows<G>, table: &'t NodeTable<'t>, weights: &'t [G::Weight])
     requires ready { Ready G.kind (map G.weighs weights.now) (made table.now) }
     requires enough { length (made table.now) ≤ length rows.old.rows.now }
@@ -89,6 +90,7 @@ pub fn fill<'t, G: Grade>(rows: &mut Rows<G>, table: &'t NodeTable<'t>, weights:
     ensures named { rows.new.rows.ghost_name ≡ rows.old.rows.ghost_name }
     ensures kept { length rows.new.rows.now ≡ length rows.old.rows.now }
 {
+    // By the place's number, since a row is read off the rows before it, and is put at the same place.
     for k in 0..table.used() {
         let reading = Reading {
             table,
@@ -143,7 +145,7 @@ impl From<Edge> for BitEdge {
     }
 }
 
-// The part from which a best grade is known, and that grade.
+// The part from which a best grade is known, and that grade; the part is meant where the grade is missing too.
 struct Top<G> {
     part: usize,
     best: Option<G>,

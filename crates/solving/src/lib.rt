@@ -17,20 +17,20 @@ use rows::{BitEdge, Reading, Rows, fill, put_on};
 use tables::NodeTable;
 
 /// A choice with its grade.
-#[derive(Clone, Copy)]
+#[derive(Clone, Copy, PartialEq, Eq, Debug)]
 pub struct Answer<G> {
     pub choice: Choice,
     pub grade: G,
 }
 
-// Whether a part is fitted, and the edge that goes on from there.
+// Whether a part is fitted, and the edge that goes on from there, which is meant in both cases.
 #[derive(Clone, Copy, Drop)]
 struct Settled {
     fitted: bool,
     next: BitEdge,
 }
 
-// The edge after part i is fitted, or left out.
+// The edge after part i is fitted, or left out. Beside the node table's `settle`, whose edges have whole numbers where these have a truth.
 fn turned(table: &NodeTable, edge: BitEdge, i: usize, fitted: bool) -> BitEdge
     requires { Under (made table.now) i (length (made table.now)) edge.child }
     ensures { Turns (made table.now) i edge.one edge.child fitted result.one result.child }
@@ -101,6 +101,7 @@ fn word_of<G: Grade>(reading: &Reading<G>, start: BitEdge) -> u64
 {
     let mut edge = start;
     let mut choice = 0;
+    // Over the parts' numbers and not over the weights, since a part's number settles it, and is its bit.
     for i in 0..reading.weights.len() {
         let Settled { fitted, next } = settle(reading, edge, i);
         choice = with_bit(choice, i, fitted);

@@ -1,18 +1,16 @@
-use Rattle.std.proofs.Common.{sym, ◌∙◌}
+use Rattle.std.proofs.Common.{rules, tests, cond, ltb, List, map, length, not, Some, None, zero-add, sym, ap, ◌∙◌}
+use Rattle.std.specs.List.{position_or_len}
+use Rattle.std.proofs.lemmas.Iterator.{YieldsList-from_slice}
+use Rattle.std.proofs.lemmas.Iterator.Search.{position_from_yields_List}
 use Rattle.limits.specs.Choices.{bits}
+use Rattle.limits.specs.Limits.{keeps}
 use Rattle.jobs.specs.Calls.{broken}
-use Rattle.jobs.specs.Books.{limits_of}
-use Rattle.jobs.proofs.Sums.{broken_more, broken_here, broken_none}
+use Rattle.jobs.specs.declared.ledger.Record.{Record}
+use Rattle.jobs.proofs.Sums.{broken_is}
 use Rattle.jobs.proofs.Job.first_broken.Goals as goal
-
-pub returns-then-not-is_kept : goal.returns-then-not-is_kept
-returns-then-not-is_kept c =
-    broken_here c.standing-record-items.result.now c.loop-i.i (bits c.args.self.now.parts c.args.choice.0) (broken 0 (limits_of c.args.self.now.ledger.records c.args.self.now.ledger.count) (bits c.args.self.now.parts c.args.choice.0)) c.loop-i.invariant _ c.loop-i-test.true (sym c.is_kept.ensures ∙ c.if-not-is_kept.true)
-
-pub loop-i-preserved : goal.loop-i-preserved
-loop-i-preserved c =
-    broken_more c.standing-record-items.result.now c.loop-i.i (bits c.args.self.now.parts c.args.choice.0) (broken 0 (limits_of c.args.self.now.ledger.records c.args.self.now.ledger.count) (bits c.args.self.now.parts c.args.choice.0)) c.loop-i.invariant _ c.loop-i-test.true (sym c.is_kept.ensures ∙ c.if-not-is_kept.false)
 
 pub returns : goal.returns
 returns c =
-    broken_none c.standing-record-items.result.now c.loop-i.i (bits c.args.self.now.parts c.args.choice.0) (broken 0 (limits_of c.args.self.now.ledger.records c.args.self.now.ledger.count) (bits c.args.self.now.parts c.args.choice.0)) c.loop-i.invariant c.loop-i-test.false
+    ap (λ (rs : List Record). broken 0 (map (λ (r : Record). r.limit) rs) (bits c.args.self.now.parts c.args.choice.0)) (sym c.standing.ensures)
+    ∙ (broken_is 0 c.standing.result.now (bits c.args.self.now.parts c.args.choice.0)
+    ∙ (ap (λ n. cond (ltb (position_or_len (λ (r : Record). not (keeps r.limit (bits c.args.self.now.parts c.args.choice.0))) c.standing.result.now) (length c.standing.result.now)) (Some n) None) (zero-add (position_or_len (λ (r : Record). not (keeps r.limit (bits c.args.self.now.parts c.args.choice.0))) c.standing.result.now)) ∙ sym (position_from_yields_List (λ (r : Record). not (keeps r.limit (bits c.args.self.now.parts c.args.choice.0))) _ _ c.position.result c.position.ensures.ran (YieldsList-from_slice c.standing.result.now cc) (λ x b q k. search (rules, tests)))))
