@@ -36,6 +36,6 @@ pub fn set_chooser_list(sheet: &[u8], out: &mut [u8]) -> i64
         out,
     ) {
         Ok(written) => written as i64,
-        Err(_) => -13,
+        Err(refusal) => -i64::from(refusal.number()),
     }
 }
