@@ -69,6 +69,7 @@ fn run(rt: &HostRuntime) -> anyhow::Result<()> {
         &mut out,
     ) {
         Ok(written) => print_bytes(rt, &out[0..written]),
+        // No listing is longer than the output; a sheet's list is refused for nothing else.
         Err(_) => Err(anyhow!("the listing is too long")),
     }
 }
