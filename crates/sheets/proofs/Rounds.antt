@@ -1,5 +1,5 @@
 -- The loop over a sheet's records is the definition's recursion.
-use Rattle.std.proofs.Common.{◌≡◌, ℕ, zero, suc, ◌+◌, ◌-◌, ◌<◌, ◌≤◌, min, leb, List, length, sym, ap, ◌∙◌, subst, arith, le-leb}
+use Rattle.std.proofs.Common.{◌≡◌, ℕ, zero, suc, ◌+◌, ◌-◌, ◌<◌, ◌≤◌, min, leb, List, length, sym, ap, ◌∙◌, arith, le-leb}
 use Rattle.std.proofs.lemmas.Bool.{cond-true}
 use Rattle.sheets.specs.Told.{Told, untold, Step, broken, ended, goes_on, one_step, Reading, whole, faulty, read_all, read_sheet}
 
@@ -39,9 +39,6 @@ module _ (room : ℕ) (sheet : List ℕ) (i : ℕ) (t : Told) (at : ℕ) (total 
 
 pub step_as : (room room' : ℕ) (sheet sheet' : List ℕ) (t : Told) (at : ℕ) (s : Step) → room ≡ room' → sheet ≡ sheet' → s ≡ one_step room sheet t at → s ≡ one_step room' sheet' t at
 step_as room room' sheet sheet' t at s a b e = e ∙ ap (λ r. one_step r sheet t at) a ∙ ap (λ x. one_step room' x t at) b
-
-pub within_as : (n : ℕ) (xs ys : List ℕ) → xs ≡ ys → n ≤ length xs → n ≤ length ys
-within_as n xs ys e h = subst (λ x. n ≤ length x) e h
 
 pub sheet_small : (w : Reading) (room places : ℕ) (xs sheet : List ℕ) → xs ≡ sheet → room ≡ min places 60000 → length sheet ≤ 32768
     → w ≡ read_all (suc (length xs)) room xs 0 untold 0 → w ≡ read_sheet sheet places
