@@ -7,7 +7,7 @@ use limits::drafts::MOST_COEFFICIENT;
 /// A name has at most so many bytes.
 pub const LONGEST_NAME: usize = 16;
 
-/// A wait or a price is at most so much.
+/// A wait or a price is at most so much. Coefficients and grades have bounds of their own that are as large, and mean something else.
 pub const MOST_AMOUNT: u32 = 1_000_000;
 
 /// Whether each byte of a name is one of those from 33 to 126.
@@ -17,7 +17,7 @@ pub fn is_plain(name: &[u8]) -> bool
     name.iter().all(|b| b.is_ascii_graphic())
 }
 
-/// Whether a signed number is within 1,000,000 either way.
+/// Whether a signed number, a mass or a coefficient, is within 1,000,000 either way.
 pub fn in_range(v: i32) -> bool
     ensures { result ≡ in_range v }
 {

@@ -11,7 +11,8 @@ pub mod judging;
 mod naming;
 mod reading;
 
-/// Why a sheet is refused.
+/// Why a sheet is refused by its own bytes. Its numbers are also those of faults of numbers, of a job's refusals and of a writer's: four enums,
+/// since each lists what its own layer refuses with.
 #[derive(Clone, Copy, PartialEq, Eq, Debug, Drop)]
 pub enum Reason {
     CutShort = 1,
@@ -73,7 +74,7 @@ impl Layer {
     }
 }
 
-/// Why a sheet is refused, in which layer, and at which byte.
+/// Why a sheet is refused by its own bytes, in which layer, and at which byte.
 #[derive(Clone, Copy, PartialEq, Eq, Debug, Drop)]
 pub struct Fault {
     pub reason: Reason,
@@ -82,7 +83,8 @@ pub struct Fault {
 }
 
 /// A record's payload, read field by field: the sheet up to the payload's end, the place of the record's first byte,
-/// and the place that is read next.
+/// and the place that is read next. That this place is within the sheet is no ghost field: a payload is made at any place, and reading a field
+/// finds whether bytes stand there.
 #[derive(Clone, Copy, PartialEq, Eq, Debug, Drop)]
 pub struct Payload<'a> {
     body: &'a [u8],

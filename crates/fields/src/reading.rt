@@ -110,6 +110,7 @@ impl<'a> Payload<'a> {
         if part > 47 {
             return Err(Layer::Jobs.fault(Reason::PartOutOfRange, self.place));
         }
+        // At most 47 by the test before.
         let part = part as u8;
         if part < least {
             return Err(Layer::Jobs.fault(Reason::PartNotRising, self.place));

@@ -1,7 +1,6 @@
 -- The lines of fitted parts, one after another, and pieces of text.
 use Rattle.std.proofs.Common.{◌≡◌, ℕ, ◌+◌, ◌/◌, ◌%◌, ◌<◌, ◌≤◌, List, [], ◌∷◌, ◌++◌, length, get_or, drop, sym, ap, ◌∙◌, subst, arith, length-append, Bor, eq-eqb}
 use lib.Seq.{sets, sets-eq}
-use Rattle.std.specs.List.{concat}
 use Rattle.std.proofs.lemmas.List.{at_drop_more, at_drop_all}
 use Rattle.std.proofs.lemmas.Bool.{ne_eqb}
 use Rattle.limits.specs.Choices.{bits}
@@ -50,10 +49,3 @@ pub from_start : (o s t : List ℕ) (was next is : Cursor) → was.at ≡ 0 → 
 from_start o s t was next is e f p q h =
     (puts_then s t was next is p q).out ∙ (ap (λ a. sets was.out.now a (s ++ t)) e ∙ (ap (λ xs. sets xs 0 (s ++ t)) f
     ∙ (sets-eq (s ++ t) o 0 (omega arith) ∙ ap (λ n. (s ++ t) ++ drop n o) (omega arith))))
-
--- the pieces that are left, after what stands
-pub joined_more : (ps : List (Bor (List ℕ))) (i : ℕ) (d : Bor (List ℕ)) → i < length ps → concat (contents (drop i ps)) ≡ (get_or ps i d).now ++ concat (contents (drop (i + 1) ps))
-joined_more ps i d h = at_drop_more (λ s. concat (contents s)) ps i d h
-
-pub joined_all : (ps : List (Bor (List ℕ))) (i : ℕ) → length ps ≤ i → concat (contents (drop i ps)) ≡ []
-joined_all ps i h = at_drop_all (λ s. concat (contents s)) ps i h

@@ -13,7 +13,8 @@ use texts::{fault_line, goal_text};
 mod lines;
 mod texts;
 
-/// The grade of a choice: grams, days, or grams with a price.
+/// The grade of a choice: grams, days, or grams with a price. Beside the types of grades, as numbers that are printed: a listing adds and
+/// compares none.
 #[derive(Clone, Copy, PartialEq, Eq, Debug, Drop)]
 pub enum Grade {
     Mass(i32),

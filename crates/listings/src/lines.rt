@@ -1,4 +1,6 @@
-//! The lines of a listing, put into a lent output where there is room.
+//! The lines of a listing, put into a lent output where there is room. Their end is found before one is put, so that an output that is too
+//! short stays as it was: so one function finds it and another puts them. Both go along the names with the choice's word, which they halve
+//! at each, as `bits` reads a word. Names and choice are no struct: a listing has them from its caller one by one, and hands them on twice.
 ghost use Rattle.std.specs.Prelude.{◌≡◌, ℕ, ◌+◌, ◌<◌, ◌≤◌, length, MatchOption};
 ghost use Rattle.limits.specs.Choices.{bits};
 ghost use Rattle.numbers.specs.Cursors.{HasRoom, Puts};

@@ -8,14 +8,14 @@ use arrayvec::ArrayVec;
 use itoa::Buffer;
 
 // No first line is longer.
-const LONGEST: usize = 109;
+const LONGEST: usize = 75;
 
 /// A first line.
 pub type Line = ArrayVec<u8, LONGEST>;
 
 // Pieces of text, one after another.
 fn joined(pieces: &[&[u8]]) -> Line
-    requires { length (concat (contents pieces.now)) ≤ 109 }
+    requires { length (concat (contents pieces.now)) ≤ 75 }
     ensures { result.items ≡ concat (contents pieces.now) }
 {
     let mut line = Line::new();

@@ -27,7 +27,7 @@ impl<'a> Cursor<'a> {
         self.at
     }
 
-    /// How many bytes have room at the cursor.
+    /// How many bytes have room at the cursor: none where it is made past the slice's end.
     pub fn room(&self) -> usize
         ensures { result ≡ length self.now.out.now - self.now.at }
     {
@@ -51,6 +51,7 @@ impl<'a> Cursor<'a> {
     {
         self.put_bytes(&spelling(value));
     }
+
     /// Puts a signed number where there is room.
     pub fn put_signed(&mut self, value: i32)
         requires { HasRoom (encode_signed value) self.old }

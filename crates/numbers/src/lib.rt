@@ -38,6 +38,7 @@ pub fn read_number(bytes: &[u8], at: usize) -> Result<(u32, usize), NumberFault>
     let Some(rest) = bytes.get(at..) else {
         return Err(NumberFault::CutShort);
     };
+    // By a loop: each digit's weight is the last one's times 128, and the byte that ends the number may be any of five.
     let mut value: u64 = 0;
     let mut weight: u64 = 1;
     for (i, &b) in rest.iter().enumerate() {
@@ -56,7 +57,7 @@ pub fn read_number(bytes: &[u8], at: usize) -> Result<(u32, usize), NumberFault>
     Err(NumberFault::CutShort)
 }
 
-/// The signed number that a number stands for.
+/// The signed number that a number stands for. By halves and doubles, as the definition has it: shifts are no plainer.
 pub fn signed_of(n: u32) -> i32
     ensures { result ≡ signed_of n }
 {
@@ -84,7 +85,7 @@ pub fn read_signed(bytes: &[u8], at: usize) -> Result<(i32, usize), NumberFault>
     Ok((signed_of(n), next))
 }
 
-// The bytes of a number, which are five at most.
+// The bytes of a number, which are five at most. By a loop: how many there are is known once the rest is below 128.
 fn spelling(value: u32) -> ArrayVec<u8, 5>
     ensures { result.items ≡ encode value }
 {

@@ -38,3 +38,8 @@ abbrev pub Appended : Saying → List ℕ → ℕ → List ℕ → Result ℕ Re
 Appended s was at is answer = MatchResult answer
     (λ end. (refusal_of s (length was - at) ≡ done) × (is ≡ sets was at (spelled s)) × (end ≡ at + length (spelled s)) × (end ≤ length was))
     (λ e. (refusal_of s (length was - at) ≡ refused (refusal_number e)) × (is ≡ was))
+
+-- where a record that is written ends, which is at a place; or it is refused
+abbrev pub ended : Result (Unit {0}) Refusal → ℕ → Result ℕ Refusal
+ended (Ok _) at = Ok at
+ended (Err e) at = Err e

@@ -6,13 +6,11 @@ ghost use Rattle.recording.specs.Writing.{told, saying};
 
 use crate::{Entry, Refusal};
 use fields::judging::{LONGEST_NAME, MOST_AMOUNT, in_range, is_plain};
-use limits::drafts::Term;
+use limits::drafts::{MOST_BOUND, Term};
 use records::{Part, Record};
 
-// A bound goes so far either way.
-const MOST_BOUND: u32 = 100_000_000;
-
-// Judges a part's name, and then its mass, wait and price.
+// Judges a part's name, and then its mass, wait and price. A payload's `name`, `mass` and `amount` make these tests too, but each as its
+// field is read, and with faults that have a place.
 fn judge_part(part: Part) -> Result<(), Refusal>
     ensures { told result ≡ judge_part part.entry.name.now part.entry.mass part.entry.wait part.entry.price }
 {
@@ -54,7 +52,7 @@ fn judge_terms(terms: &[Term]) -> Result<(), Refusal>
     Ok(())
 }
 
-// Judges a limit's bound.
+// Judges a limit's bound. A job's `close` makes this test too, but refuses as a job does.
 fn judge_bound(bound: i32) -> Result<(), Refusal>
     ensures { told result ≡ judge_bound bound }
 {

@@ -35,14 +35,14 @@ impl Refusal {
 /// A record that is to be written, whose terms are a slice.
 pub type Entry<'a> = Record<'a, &'a [Term]>;
 
-/// The entry of a goal.
+/// The entry of a goal, for makers who know no record by its parts.
 pub fn goal_entry(goal: Goal) -> Entry<'static>
     ensures { saying result ≡ goal_says goal }
 {
     Record::Goal(goal)
 }
 
-/// The entry of the end.
+/// The entry of the end, for makers likewise.
 pub fn end_entry() -> Entry<'static>
     ensures { saying result ≡ end_says }
 {

@@ -1,4 +1,6 @@
-//! The payloads of records: how many bytes they take, and their bytes, put where there is room.
+//! The payloads of records: how many bytes they take, and their bytes, put where there is room. Each is measured by one function and put by
+//! another: all is measured before a byte is put, so that a refusal leaves the bytes as they were. That it is at most 1,000 bytes stands in
+//! each contract, of the piece that the function is given: one fact of the whole would have to be brought down to each piece again.
 ghost use Rattle.std.specs.Prelude.{◌≡◌, ℕ, ◌≤◌, length};
 ghost use Rattle.numbers.specs.Cursors.{HasRoom, Puts};
 ghost use Rattle.records.specs.Codes.{kind_code};
@@ -39,7 +41,7 @@ fn part_size(part: Part) -> usize
         + width(part.price)
 }
 
-// How many bytes the terms take.
+// How many bytes the terms take. By a loop, whose invariant bounds the sum of the terms so far.
 fn terms_size(terms: &[Term]) -> usize
     requires { length (spelled_terms terms.now) ≤ 1000 }
     ensures { result ≡ length (spelled_terms terms.now) }
@@ -82,7 +84,7 @@ fn put_part(cursor: &mut Cursor, part: Part)
     cursor.put_number(part.price);
 }
 
-// Puts terms.
+// Puts terms. By a loop, since each puts twice at the one cursor.
 fn put_terms(cursor: &mut Cursor, terms: &[Term])
     requires { HasRoom (spelled_terms terms.now) cursor.old }
     ensures { Puts (spelled_terms terms.now) cursor.old cursor.new }

@@ -6,7 +6,7 @@ ghost use Rattle.limits.specs.Refusals.{done, refused};
 ghost use Rattle.spelling.specs.Spelling.{spelled};
 ghost use Rattle.spelling.specs.Judging.{refusal_of};
 ghost use Rattle.spelling.specs.Laws.{BackIn};
-ghost use Rattle.recording.specs.Writing.{refusal_number, saying, Appended};
+ghost use Rattle.recording.specs.Writing.{refusal_number, saying, Appended, ended};
 
 use crate::judging::judge;
 use crate::payloads::{kind, payload_size, put_payload};
@@ -35,15 +35,6 @@ fn put_record(cursor: &mut Cursor, entry: Entry) -> Result<(), Refusal>
     Ok(())
 }
 
-/// Writes a record from a place on, and says where it ends; a refusal leaves the bytes as they were.
-pub fn write(out: &mut [u8], at: usize, entry: Entry) -> Result<usize, Refusal>
-    ensures { Appended (saying entry.entry) out.old at out.new result }
-{
-    let mut cursor = Cursor::new(out, at);
-    put_record(&mut cursor, entry)?;
-    Ok(cursor.at())
-}
-
 impl<'a> Writer<'a> {
     /// A writer that has written nothing.
     pub fn new(out: &'a mut [u8]) -> Writer<'a>
@@ -64,14 +55,8 @@ impl<'a> Writer<'a> {
     /// Appends a record. A refusal leaves the writer and its bytes as they were.
     pub fn append(&mut self, entry: Entry) -> Result<(), Refusal>
         ensures same { self.new.cursor.out.ghost_name ≡ self.old.cursor.out.ghost_name }
-        ensures cases { MatchResult result
-            (λ _. (refusal_of (saying entry.entry) (length self.old.cursor.out.now - self.old.cursor.at) ≡ done)
-            × (self.new.cursor.out.now ≡ sets self.old.cursor.out.now self.old.cursor.at (spelled (saying entry.entry)))
-            × (self.new.cursor.at ≡ self.old.cursor.at + length (spelled (saying entry.entry)))
-            × (self.new.cursor.at ≤ length self.old.cursor.out.now))
-            (λ e. (refusal_of (saying entry.entry) (length self.old.cursor.out.now - self.old.cursor.at) ≡ refused (refusal_number e))
-            × (self.new.cursor.out.now ≡ self.old.cursor.out.now)
-            × (self.new.cursor.at ≡ self.old.cursor.at)) }
+        ensures cases { Appended (saying entry.entry) self.old.cursor.out.now self.old.cursor.at self.new.cursor.out.now (ended result self.new.cursor.at) }
+        ensures left { MatchResult result (λ _. Unit {0}) (λ _. self.new.cursor.at ≡ self.old.cursor.at) }
         ensures back { MatchResult result
             (λ _. BackIn (saying entry.entry) self.new.cursor.out.now self.old.cursor.at self.new.cursor.at)
             (λ _. Unit {0}) }

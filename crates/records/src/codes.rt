@@ -15,6 +15,7 @@ impl Goal {
     }
 }
 
+// By a match that has each code again: nothing derives a goal from its discriminant.
 impl TryFrom<u32> for Goal {
     type Error = UnknownCode;
 
@@ -31,7 +32,7 @@ impl TryFrom<u32> for Goal {
 }
 
 impl Kind {
-    /// The code by which a sheet names the kind.
+    /// The code by which a sheet names the kind. By a match, since a kind that holds a sense has no discriminant.
     pub fn code(self) -> u32
         ensures { result ≡ kind_code self }
     {
@@ -45,6 +46,7 @@ impl Kind {
     }
 }
 
+// By a match that has each code again: nothing derives a kind from its code.
 impl TryFrom<u32> for Kind {
     type Error = UnknownCode;
 

@@ -53,7 +53,7 @@ fn sized<'a>(
     Ok((record, head.at() + size))
 }
 
-// The record at `at`, and the place after it.
+// The record at `at`, and the place after it. It takes one by one what a reader holds, as the definition of a record at a place does.
 pub fn record_at<'a>(
     sheet: &'a [u8],
     stage: Stage,

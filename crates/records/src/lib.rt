@@ -21,7 +21,7 @@ pub enum Goal {
     MassPrice = 2,
 }
 
-/// The kinds of records.
+/// The kinds of records. Without discriminants, since a limit's kind holds its sense, which has two codes.
 #[derive(Clone, Copy, PartialEq, Eq, Debug, Drop)]
 pub enum Kind {
     End,
@@ -30,7 +30,7 @@ pub enum Kind {
     Goal,
 }
 
-/// A code that names no goal, or no kind of record.
+/// A code that names no goal, or no kind of record; which one it was is part of what `try_from` promises.
 #[derive(Clone, Copy, PartialEq, Eq, Debug, Drop)]
 pub struct UnknownCode(pub u32);
 
@@ -67,7 +67,8 @@ pub enum Stage {
     End,
 }
 
-/// A sheet, the place that is read next, which records may come there, and the names of the parts so far.
+/// A sheet, the place that is read next, which records may come there, and the names of the parts so far: a part's name is tested against those
+/// before it. What is weighed of a part is noted by those who weigh it.
 #[derive(Drop)]
 pub struct Reader<'a> {
     sheet: &'a [u8],

@@ -90,7 +90,8 @@ fn end<'a>(sheet: Payload<'a>) -> Result<Record<'a>, Fault>
     Ok(Record::End)
 }
 
-// The record of a kind, whose payload is read from a sheet.
+// The record of a kind, whose payload is read from a sheet. The sheet is passed beside the payload that is cut from it, since after an end
+// nothing may stand in the whole sheet.
 pub fn payload<'a>(
     kind: Kind,
     names: &[&'a [u8]],

@@ -1,5 +1,5 @@
 -- A verdict's text is the text of what the sheet comes to.
-use Rattle.std.proofs.Common.{◌≡◌, ℕ, suc, ◌≤◌, Bool, true, false, cond, List, [], ◌∷◌, ◌++◌, map, length, drop, Some, None, Option, Ok, Err, Result, sym, refl, ap, ◌∙◌, subst, ap₂, arith, length-append}
+use Rattle.std.proofs.Common.{◌≡◌, ℕ, suc, Bool, true, false, cond, List, [], ◌∷◌, map, length, Some, None, Option, Ok, Err, Result, sym, refl, ap, ◌∙◌, subst, ap₂, arith}
 use Rattle.std.proofs.lemmas.List.{length-map}
 use Rattle.limits.specs.Choices.{bits}
 use Rattle.limits.specs.Limits.{keeps_all}
@@ -70,7 +70,3 @@ verdict_is goal.MassPrice t rows v size j = by_kind_text mass_price_kind shown_p
 pub listing_is : (sheet : List ℕ) (places : ℕ) (rows : Goal → ℕ) (t : Told) (s : Standing) (names : List (List ℕ)) (v : Result (Option Best) Refusal) → whole t ≡ read_sheet sheet places → names ≡ t.names → s ≡ standing (length t.parts) t.limits → length t.names ≡ length t.parts → JudgedFor t.goal t.parts s (rows t.goal) v → verdict_text v names ≡ listing sheet places rows
 listing_is sheet places rows t s names v w n e size j =
     ap (verdict_text v) n ∙ (verdict_is t.goal t (rows t.goal) v size (subst (λ x. JudgedFor t.goal t.parts x (rows t.goal) v) e j) ∙ ap (λ r. text (concluded rows r)) w)
-
--- what is written stands in the output
-pub within : (text was is : List ℕ) (n : ℕ) → n ≡ length text → is ≡ text ++ drop (length text) was → length is ≡ length was → n ≤ length was
-within text was is n e s k = let l = ap length s ∙ length-append text (drop (length text) was) in omega arith

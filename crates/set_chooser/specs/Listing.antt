@@ -14,6 +14,8 @@ use Rattle.listings.specs.Listings.{best_text, nothing_text, fault_text, fitted}
 use Rattle.sheets.specs.Told.{Told, masses_of, waits_of, costs_of, Reading, whole, faulty, read_sheet}
 use Rattle.set_chooser.specs.declared.listing.ListRefusal.{ListRefusal}
 use Rattle.set_chooser.specs.declared.listing.ListRefusal.TheVariants.{OutputTooShort}
+use Rattle.set_chooser.specs.declared.listing.WholeFault.{WholeFault}
+use Rattle.set_chooser.specs.declared.listing.WholeFault.TheVariants.{TooLong}
 
 -- number, layer, record and place of a fault; or that nothing fits; or a grade and the names of the fitted parts
 pub data Outcome : Type 0 where
@@ -60,6 +62,10 @@ listing sheet places rows = text (outcome sheet places rows)
 -- the number of list's one refusal
 abbrev pub refusal_number : ListRefusal → ℕ
 refusal_number OutputTooShort = 13
+
+-- the number of a whole sheet's one fault
+abbrev pub whole_fault_number : WholeFault → ℕ
+whole_fault_number TooLong = 16
 
 -- the listing stands at the start of the output, and the rest is left; or it is too long, and all is left
 abbrev pub Lists : List ℕ → List ℕ → List ℕ → Result ℕ ListRefusal → Type 0

@@ -7,7 +7,7 @@ use memories::{Remembered, Slots};
 use rows::{Row, RowTables};
 use tables::Place;
 
-// The nodes, and the rows of each kind, that the entry works with.
+// The nodes, and the rows of each kind, that the entry works with; the program's own number of places is as large, and can be chosen there.
 const NODES: usize = 1024;
 
 // The slots of its remembering table.
@@ -36,6 +36,6 @@ pub fn set_chooser_list(sheet: &[u8], out: &mut [u8]) -> i64
         out,
     ) {
         Ok(written) => written as i64,
-        Err(_) => -13,
+        Err(refusal) => -i64::from(refusal.number()),
     }
 }

@@ -1,11 +1,12 @@
 //! The listing of a sheet.
-ghost use Rattle.std.specs.Prelude.{◌≤◌, length, IfOk};
+ghost use Rattle.std.specs.Prelude.{◌≡◌, ◌≤◌, length, IfOk};
 ghost use Rattle.listings.specs.Listings.{fault_text, contents, Listed};
-ghost use Rattle.set_chooser.specs.Listing.{listing, Lists};
+ghost use Rattle.set_chooser.specs.Listing.{refusal_number, whole_fault_number, listing, Lists};
 ghost use Rattle.set_chooser.specs.Verdicts.{rows_lent, verdict_text};
 ghost use Rattle.set_chooser.specs.Promise.{RightListing};
 
 use crate::solved::{Verdict, solved};
+use fields::Layer;
 use listings::{FaultLine, write_best, write_fault, write_nothing};
 use memories::Memory;
 use rows::RowTables;
@@ -18,10 +19,34 @@ const LONGEST_SHEET: usize = 32_768;
 /// Why no listing is written.
 #[derive(Clone, Copy, PartialEq, Eq, Debug, Drop)]
 pub enum ListRefusal {
-    OutputTooShort,
+    OutputTooShort = 13,
 }
 
-// A fault that has no record and no place of its own.
+impl ListRefusal {
+    /// The number by which the refusal is known.
+    pub fn number(self) -> u8
+        ensures { result ≡ refusal_number self }
+    {
+        self as u8
+    }
+}
+
+// What is at fault with a sheet as a whole, and with none of its records.
+#[derive(Clone, Copy, PartialEq, Eq, Debug, Drop)]
+enum WholeFault {
+    TooLong = 16,
+}
+
+impl WholeFault {
+    // The number by which the fault is known in listings.
+    fn number(self) -> u8
+        ensures { result ≡ whole_fault_number self }
+    {
+        self as u8
+    }
+}
+
+// The listing of a fault of the jobs' layer that has no record and no place of its own.
 fn write_bare_fault(out: &mut [u8], number: u8) -> Option<usize>
     ensures { Listed (fault_text number 3 0 0) out.old out.new result }
 {
@@ -29,7 +54,7 @@ fn write_bare_fault(out: &mut [u8], number: u8) -> Option<usize>
         out,
         FaultLine {
             number,
-            layer: 3,
+            layer: Layer::Jobs.number(),
             record: 0,
             place: 0,
         },
@@ -58,7 +83,7 @@ fn listed<M: Memory>(
     ensures { Listed (listing sheet.now (length places.old) (rows_lent rows.old)) out.old out.new result }
 {
     if sheet.len() > LONGEST_SHEET {
-        return write_bare_fault(out, 16);
+        return write_bare_fault(out, WholeFault::TooLong.number());
     }
     let mut sheet = Sheet::new(sheet, places);
     match sheet.read_all(memory) {

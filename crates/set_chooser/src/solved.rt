@@ -26,7 +26,8 @@ pub struct Best {
 /// What solving a sheet comes to: the best, or nothing where nothing fits; or it is refused.
 pub type Verdict = Result<Option<Best>, Refusal>;
 
-// The weights of the parts by one kind of grade.
+// The weights of the parts by one kind of grade. By a loop: `extend` and `collect` answer a fault where a vector is full, and 48 figures never
+// are too many.
 fn weights<G: GoalKind>(figures: &[Figures]) -> ArrayVec<G::Weight, 48>
 where
     G::Weight: Default + Drop,
@@ -40,7 +41,7 @@ where
     weights
 }
 
-// Solves by one kind of grade.
+// Solves by one kind of grade, and shows the grade as a listing does; the calls of a log, whose grades stay as they are, are solved on their own.
 fn solved_by<G: GoalKind>(job: &Job, weights: &[G::Weight], lent: &mut [Row<G>]) -> Verdict
     ensures { (shown : G.Meaning → Shown) → ((g : G) → G.shown g ≡ shown (G.means g)) → Judged G.kind shown (map G.weighs weights.now) (stands job.now) (length lent.old) result }
 {

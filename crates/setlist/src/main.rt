@@ -6,8 +6,10 @@ use set_chooser::{Mass, MassPrice, Place, Row, RowTables, Slots, list};
 use std::env;
 use std::io::{Read, Write};
 
+// As many as the entry for C has.
 const DEFAULT_PLACES: usize = 1024;
 
+// A job makes use of no more.
 const MOST_PLACES: usize = 60_000;
 
 // A listing is never longer.
@@ -69,6 +71,7 @@ fn run(rt: &HostRuntime) -> anyhow::Result<()> {
         &mut out,
     ) {
         Ok(written) => print_bytes(rt, &out[0..written]),
+        // No listing is longer than the output; a sheet's list is refused for nothing else.
         Err(_) => Err(anyhow!("the listing is too long")),
     }
 }

@@ -1,6 +1,6 @@
 -- The loop over a sheet's records is the definition's recursion.
-use Rattle.std.proofs.Common.{◌≡◌, ℕ, zero, suc, ◌+◌, ◌-◌, ◌<◌, ◌≤◌, min, Bool, true, false, cond, leb, List, length, sym, refl, ap, ◌∙◌, subst, arith, le-leb}
-use Rattle.std.proofs.lemmas.Bool.{cond-true, leb-true}
+use Rattle.std.proofs.Common.{◌≡◌, ℕ, zero, suc, ◌+◌, ◌-◌, ◌<◌, ◌≤◌, min, leb, List, length, sym, ap, ◌∙◌, arith, le-leb}
+use Rattle.std.proofs.lemmas.Bool.{cond-true}
 use Rattle.sheets.specs.Told.{Told, untold, Step, broken, ended, goes_on, one_step, Reading, whole, faulty, read_all, read_sheet}
 
 -- from here on, reading comes to `total`
@@ -18,10 +18,6 @@ on_step more room sheet i s =
 read_suc : (more room : ℕ) (sheet : List ℕ) (i : ℕ) (t : Told) (at : ℕ) (s : Step) → s ≡ one_step room sheet t at → read_all (suc more) room sheet i t at ≡ on_step more room sheet i s
 unfolding read_all on_step
 read_suc more room sheet i t at s e = ap (on_step more room sheet i) (sym e)
-
-pub rest_start : (room : ℕ) (sheet : List ℕ) (t : Told) (at : ℕ) → t ≡ untold → at ≡ 0 → Rest room sheet 0 t at (read_all (suc (length sheet)) room sheet 0 untold 0)
-rest_start room sheet t at same start =
-    (suc (length sheet), omega arith, ap (λ x. read_all (suc (length sheet)) room sheet 0 x at) same ∙ ap (λ i. read_all (suc (length sheet)) room sheet 0 untold i) start)
 
 module _ (room : ℕ) (sheet : List ℕ) (i : ℕ) (t : Told) (at : ℕ) (total : Reading) where
   pub rest_more : (u : Told) (next : ℕ) → goes_on u next ≡ one_step room sheet t at → at < next → next ≤ length sheet → Rest room sheet i t at total → Rest room sheet (i + 1) u next total
@@ -44,18 +40,8 @@ module _ (room : ℕ) (sheet : List ℕ) (i : ℕ) (t : Told) (at : ℕ) (total 
 pub step_as : (room room' : ℕ) (sheet sheet' : List ℕ) (t : Told) (at : ℕ) (s : Step) → room ≡ room' → sheet ≡ sheet' → s ≡ one_step room sheet t at → s ≡ one_step room' sheet' t at
 step_as room room' sheet sheet' t at s a b e = e ∙ ap (λ r. one_step r sheet t at) a ∙ ap (λ x. one_step room' x t at) b
 
-pub within_as : (n : ℕ) (xs ys : List ℕ) → xs ≡ ys → n ≤ length xs → n ≤ length ys
-within_as n xs ys e h = subst (λ x. n ≤ length x) e h
-
 pub sheet_small : (w : Reading) (room places : ℕ) (xs sheet : List ℕ) → xs ≡ sheet → room ≡ min places 60000 → length sheet ≤ 32768
     → w ≡ read_all (suc (length xs)) room xs 0 untold 0 → w ≡ read_sheet sheet places
 sheet_small w room places xs sheet a b h e =
     e ∙ ap (λ x. read_all (suc (length x)) room x 0 untold 0) a ∙ ap (λ r. read_all (suc (length sheet)) r sheet 0 untold 0) b
     ∙ sym (cond-true (leb (length sheet) 32768) _ _ (le-leb (length sheet) 32768 h))
-
-large : (n : ℕ) (w : Reading) (b : Bool) → leb n 32768 ≡ b → 32768 < n → faulty 16 3 0 0 ≡ cond b w (faulty 16 3 0 0)
-large n w true e h = let z = leb-true n 32768 e in absurd (omega arith)
-large n w false e h = refl
-
-pub sheet_large : (places : ℕ) (sheet : List ℕ) → 32768 < length sheet → faulty 16 3 0 0 ≡ read_sheet sheet places
-sheet_large places sheet h = large (length sheet) (read_all (suc (length sheet)) (min places 60000) sheet 0 untold 0) (leb (length sheet) 32768) refl h

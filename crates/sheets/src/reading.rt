@@ -6,7 +6,7 @@ ghost use Rattle.sheets.specs.Notes.{parts_of, NoneYet};
 
 use crate::closing::close_limit;
 use crate::faults::{RecordFault, SheetFault};
-use crate::{Figures, Notes, Progress};
+use crate::{Notes, Progress};
 use jobs::Job;
 use limits::drafts::Side;
 use memories::Memory;
@@ -59,11 +59,8 @@ impl<'s, 'j> Sheet<'s, 'j> {
         let place = placed.place;
         match placed.record {
             Record::Part(part) => {
-                self.notes.push(Figures {
-                    mass: part.mass,
-                    wait: part.wait,
-                    price: part.price,
-                });
+                self.notes.push(part.into());
+                // At most 48 parts are noted, and a job of so many is never refused.
                 let _ = self.job.begin(self.notes.figures().len() as u8);
             }
             Record::Limit {
@@ -87,6 +84,7 @@ impl<'s, 'j> Sheet<'s, 'j> {
             ≡ read_all (suc (length self.old.reader.sheet.now)) (room self.old) self.old.reader.sheet.now 0 untold 0 }
         ensures places { room self.new ≡ room self.old }
     {
+        // By a loop with a count: a fault has its record's number, and reading ends by the end record and not by a count.
         let mut record = 0;
         loop {
             match self.read_one(memory) {

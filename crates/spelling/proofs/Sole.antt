@@ -307,23 +307,6 @@ record_sole stage names sheet at r s b e =
 pub one_spelling_lem : OneSpelling
 one_spelling_lem stage names sheet at next s b e = standing sheet at next (spelled s) (record_sole stage names sheet at next s b e)
 
--- what is read is of a kind that may come
-pub kind_allowed : (stage : Stage) (names : List (List ℕ)) (sheet : List ℕ) (at r : ℕ) (s : Saying) → Bytes sheet → read_record stage names sheet at ≡ found s r → allowed stage (kind_of s) ≡ true
-kind_allowed stage names sheet at r s b e =
-    let h = head stage names sheet at r s e in
-    let (k, w, m) = holds stage names sheet at r s b h in
-    ap (allowed stage) k ∙ h.may_come_lem
-
-parts_stage : (stage : Stage) → allowed stage 1 ≡ true → stage ≡ Parts
-parts_stage Parts h = refl
-parts_stage Limits h = let z : ◌≡◌ {A = ℕ} 0 1 = cc in absurd (omega arith)
-parts_stage End h = let z : ◌≡◌ {A = ℕ} 0 1 = cc in absurd (omega arith)
-
--- a part is read while only parts have come
-pub part_in_parts : (stage : Stage) (names : List (List ℕ)) (sheet : List ℕ) (at : ℕ) (name : List ℕ) (mass : ℤ) (wait price r : ℕ) → Bytes sheet
-    → read_record stage names sheet at ≡ found (part_says name mass wait price) r → stage ≡ Parts
-part_in_parts stage names sheet at name mass wait price r b e = parts_stage stage (kind_allowed stage names sheet at r (part_says name mass wait price) b e)
-
 -- nothing stands after the end
 pub end_is_last : (stage : Stage) (names : List (List ℕ)) (sheet : List ℕ) (at r : ℕ) → Bytes sheet → read_record stage names sheet at ≡ found end_says r → r ≡ length sheet
 end_is_last stage names sheet at r b e =

@@ -1,8 +1,8 @@
-use Rattle.std.proofs.Common.{suc, ◌<◌, length, ◌∙◌, arith, rules}
+use Rattle.std.proofs.Common.{suc, ◌<◌, ◌≤◌, length, ◌∙◌, subst, arith, rules}
 use Rattle.sheets.specs.Told.{read_all, untold, goes_on, ended, broken}
 use Rattle.sheets.specs.Faults.{number_of, layer_of, place_of}
 use Rattle.sheets.specs.Sheets.{told_by, room}
-use Rattle.sheets.proofs.Rounds.{rest_more, rest_ended, rest_broken, step_as, within_as}
+use Rattle.sheets.proofs.Rounds.{rest_more, rest_ended, rest_broken, step_as}
 use Rattle.sheets.proofs.reading.Sheet.read_all.Goals as goal
 
 pub overflow_add-record : goal.overflow_add-record
@@ -22,7 +22,7 @@ loop-record-preserved g c =
     let same = c.in-Ok-GoesOn.ensures.sheet ∙ same_sheet in (
       rest_more (room c.args.self.now) sheet c.loop-record.record (told_by c.loop-record.self) c.loop-record.self.reader.at total (told_by c.read_one.new.self) c.read_one.new.self.reader.at
           (step_as (room c.loop-record.self) (room c.args.self.now) c.loop-record.self.reader.sheet.now sheet (told_by c.loop-record.self) c.loop-record.self.reader.at (goes_on (told_by c.read_one.new.self) c.read_one.new.self.reader.at) same_room same_sheet step) less
-          (within_as c.read_one.new.self.reader.at c.read_one.new.self.reader.sheet.now sheet same c.read_one.new.self.reader.ok) rest,
+          (subst (λ x. c.read_one.new.self.reader.at ≤ length x) same c.read_one.new.self.reader.ok) rest,
       c.in-Ok-GoesOn.ensures.places ∙ same_room,
       same,
       omega (arith, low, less),
