@@ -35,6 +35,15 @@ fn put_record(cursor: &mut Cursor, entry: Entry) -> Result<(), Refusal>
     Ok(())
 }
 
+/// Writes a record from a place on, and says where it ends; a refusal leaves the bytes as they were. For those who keep the place themselves.
+pub fn write(out: &mut [u8], at: usize, entry: Entry) -> Result<usize, Refusal>
+    ensures { Appended (saying entry.entry) out.old at out.new result }
+{
+    let mut cursor = Cursor::new(out, at);
+    put_record(&mut cursor, entry)?;
+    Ok(cursor.at())
+}
+
 impl<'a> Writer<'a> {
     /// A writer that has written nothing.
     pub fn new(out: &'a mut [u8]) -> Writer<'a>

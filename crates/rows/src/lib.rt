@@ -175,6 +175,15 @@ fn terminal_grade<G: Grade>(one: bool) -> Option<G>
     one.then_some(G::empty())
 }
 
+/// The grade that part i weighs.
+pub fn grade_at<G: Grade>(weights: &[G::Weight], i: usize) -> G
+    requires weighed { Weighed G.kind (map G.weighs weights.now) }
+    requires low { i < length (map G.weighs weights.now) }
+    ensures { slice_get (map G.weighs weights.now) i ≡ Some (G.means result) }
+{
+    G::of_weight(&weights[i]).unwrap()
+}
+
 /// A node table with the weights of its parts and the rows that are filled, to read best grades from.
 #[derive(Drop)]
 pub struct Reading<'t, 'r, G: Grade> {
@@ -185,14 +194,6 @@ pub struct Reading<'t, 'r, G: Grade> {
 }
 
 impl<'t, 'r, G: Grade> Reading<'t, 'r, G> {
-    /// The grade that part i weighs.
-    pub fn grade_at(&self, i: usize) -> G
-        requires { i < length (map G.weighs self.now.weights.now) }
-        ensures { slice_get (map G.weighs self.now.weights.now) i ≡ Some (G.means result) }
-    {
-        G::of_weight(&self.weights[i]).unwrap()
-    }
-
     // The best grade at the node that the edge leads to, from its part up; at the terminal, with no part left.
     fn top(&self, edge: BitEdge) -> Top<G>
         requires { Under (made self.now.table.now) 0 (length self.now.rows.now) edge.child }
@@ -222,7 +223,7 @@ impl<'t, 'r, G: Grade> Reading<'t, 'r, G> {
         let mut best = best;
         // Over the parts' numbers and not over the weights, since `grade_at` reads a part's grade by its number.
         for j in (to..from).rev() {
-            let weight = self.grade_at(j);
+            let weight: G = grade_at(self.weights, j);
             best = better(best, put_on(&weight, best));
         }
         best
@@ -248,7 +249,7 @@ impl<'t, 'r, G: Grade> Reading<'t, 'r, G> {
         let i = node.part as usize;
         let out = self.best(BitEdge::left_out(one, node), i + 1);
         let fitted = self.best(BitEdge::fitted(one, node), i + 1);
-        let weight = self.grade_at(i);
+        let weight: G = grade_at(self.weights, i);
         better(out, put_on(&weight, fitted))
     }
 

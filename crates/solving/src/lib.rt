@@ -13,7 +13,7 @@ ghost use Rattle.solving.specs.Settling.{Solved, Filled, StandsAt, Turns, Settle
 use diagrams::{Child, Edge};
 use grades::Grade;
 use limits::Choice;
-use rows::{BitEdge, Reading, Rows, fill, put_on};
+use rows::{BitEdge, Reading, Rows, fill, grade_at, put_on};
 use tables::NodeTable;
 
 /// A choice with its grade.
@@ -68,7 +68,7 @@ fn settle<G: Grade>(reading: &Reading<G>, edge: BitEdge, i: usize) -> Settled
 {
     let out = turned(reading.table, edge, i, false);
     let fit = turned(reading.table, edge, i, true);
-    let weight = reading.grade_at(i);
+    let weight: G = grade_at(reading.weights, i);
     let without = reading.best(out, i + 1);
     let with = put_on(&weight, reading.best(fit, i + 1));
     if stays_out(without, with) {
