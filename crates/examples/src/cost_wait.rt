@@ -12,7 +12,7 @@ pub struct Offer {
 }
 
 /// What the fitted parts cost together, and the days until the last of them comes.
-#[derive(Clone, Copy)]
+#[derive(Clone, Copy, PartialEq, Eq, PartialOrd, Ord, Debug)]
 pub struct CostWait {
     pub cents: u32,
     pub days: u32,
@@ -56,6 +56,6 @@ impl Grade for CostWait {
     }
 
     fn ranks_no_later(&self, other: &CostWait) -> bool {
-        self.cents < other.cents || (self.cents == other.cents && self.days <= other.days)
+        self <= other
     }
 }

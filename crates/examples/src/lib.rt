@@ -42,19 +42,14 @@ pub fn lists(sheet: &[u8], listing: &[u8]) -> bool {
 pub fn spells(value: u32, bytes: &[u8]) -> bool {
     let mut out = [0; 5];
     let written = write_number(&mut out, 0, value);
-    let read = match read_number(bytes, 0) {
-        Ok((number, next)) => number == value && next == bytes.len(),
-        Err(_) => false,
-    };
-    read && written == Some(bytes.len()) && out.starts_with(bytes)
+    written == Some(bytes.len())
+        && out.starts_with(bytes)
+        && read_number(bytes, 0) == Ok((value, bytes.len()))
 }
 
 /// How a solve for mass is refused, if it is.
 pub fn refusal(job: &Job, masses: &[i32], rows: &mut [Row<Mass>]) -> Option<Refusal> {
-    match job.solve(masses, &mut Rows::new(rows)) {
-        Ok(_) => None,
-        Err(refusal) => Some(refusal),
-    }
+    job.solve(masses, &mut Rows::new(rows)).err()
 }
 
 #[cfg(test)]

@@ -1,5 +1,5 @@
 use super::*;
-use set_chooser::{Choice, Latest, NoMemory, Place, Slots};
+use set_chooser::{Choice, Grade, Latest, NoMemory, Place, Slots};
 use std::test::Fail;
 
 // At most one of two parts needs four nodes, also twice: a table of four places takes it, one of three refuses.
@@ -57,7 +57,7 @@ fn limits_of_one_part(rt: HostRuntime) {
 }
 
 // The limits of the four-part set: what is drawn against what the packs give, at most one pack, at least one of the others.
-fn four_parts<M: Memory>(job: &mut Job, memory: &mut M) -> Result<(), Refusal> {
+pub(crate) fn four_parts<M: Memory>(job: &mut Job, memory: &mut M) -> Result<(), Refusal> {
     job.begin(4)?;
     close(
         job,
@@ -70,28 +70,39 @@ fn four_parts<M: Memory>(job: &mut Job, memory: &mut M) -> Result<(), Refusal> {
     close(job, &[term(2, 1), term(3, 1)], Sense::AtLeast, 1, memory)
 }
 
-fn lightest(job: &Job, rows: &mut [Row<Mass>]) -> Result<Option<(u64, i32)>, Refusal> {
-    match job.solve(&[180, 95, 40, 30], &mut Rows::new(rows))? {
-        Some(answer) => Ok(Some((answer.choice.0, answer.grade.grams))),
-        None => Ok(None),
-    }
+// The best choice's word and its grade, by any kind.
+pub(crate) fn best<G: Grade>(
+    job: &Job,
+    weights: &[G::Weight],
+    rows: &mut [Row<G>],
+) -> Result<Option<(u64, G)>, Refusal> {
+    let answer = job.solve(weights, &mut Rows::new(rows))?;
+    Ok(answer.map(|found| (found.choice.0, found.grade)))
 }
 
 // The lightest of the four-part set, with a part barred, and with two barred, when nothing fits.
 #[test]
 fn four_parts_by_mass(rt: HostRuntime) {
     let mut places = [Place::EMPTY; 64];
-    let mut rows = [Row::EMPTY; 64];
     let mut job = Job::new(&mut places);
     assert_eq!(rt; four_parts(&mut job, &mut NoMemory::new()), Ok(()));
-    assert_eq!(rt; lightest(&job, &mut rows), Ok(Some((10, 125))));
+    assert_eq!(rt;
+        best(&job, &[180, 95, 40, 30], &mut [Row::EMPTY; 64]),
+        Ok(Some((10, Mass { grams: 125 })))
+    );
     assert_eq!(rt;
         four_parts(&mut job, &mut Slots::over(&mut [None; 8])),
         Ok(())
     );
-    assert_eq!(rt; lightest(&job, &mut rows), Ok(Some((10, 125))));
+    assert_eq!(rt;
+        best(&job, &[180, 95, 40, 30], &mut [Row::EMPTY; 64]),
+        Ok(Some((10, Mass { grams: 125 })))
+    );
     assert_eq!(rt; four_parts(&mut job, &mut Latest::new()), Ok(()));
-    assert_eq!(rt; lightest(&job, &mut rows), Ok(Some((10, 125))));
+    assert_eq!(rt;
+        best(&job, &[180, 95, 40, 30], &mut [Row::EMPTY; 64]),
+        Ok(Some((10, Mass { grams: 125 })))
+    );
     assert_eq!(rt;
         close(
             &mut job,
@@ -102,7 +113,10 @@ fn four_parts_by_mass(rt: HostRuntime) {
         ),
         Ok(())
     );
-    assert_eq!(rt; lightest(&job, &mut rows), Ok(Some((5, 220))));
+    assert_eq!(rt;
+        best(&job, &[180, 95, 40, 30], &mut [Row::EMPTY; 64]),
+        Ok(Some((5, Mass { grams: 220 })))
+    );
     assert_eq!(rt;
         close(
             &mut job,
@@ -113,9 +127,15 @@ fn four_parts_by_mass(rt: HostRuntime) {
         ),
         Ok(())
     );
-    assert_eq!(rt; lightest(&job, &mut rows), Ok(None));
+    assert_eq!(rt;
+        best::<Mass>(&job, &[180, 95, 40, 30], &mut [Row::EMPTY; 64]),
+        Ok(None)
+    );
     assert_eq!(rt; job.take_back(), Ok(()));
-    assert_eq!(rt; lightest(&job, &mut rows), Ok(Some((5, 220))));
+    assert_eq!(rt;
+        best(&job, &[180, 95, 40, 30], &mut [Row::EMPTY; 64]),
+        Ok(Some((5, Mass { grams: 220 })))
+    );
 }
 
 // The refusals of a job, one after another.
@@ -178,10 +198,10 @@ fn refusals_of_a_job(rt: HostRuntime) {
         Err(Refusal::OutOfRange)
     );
     assert_eq!(rt; job.check(Choice(4)), Err(Refusal::PartOutOfRange));
-    assert!(rt; job.solve(&[1], &mut Rows::new(&mut rows)).is_err());
-    assert!(rt;
-        job.solve(&[1, 1_000_001], &mut Rows::new(&mut rows))
-            .is_err()
+    assert_eq!(rt; refusal(&job, &[1], &mut rows), Some(Refusal::WrongCount));
+    assert_eq!(rt;
+        refusal(&job, &[1, 1_000_001], &mut rows),
+        Some(Refusal::OutOfRange)
     );
 }
 
