@@ -23,7 +23,7 @@ impl Grade for CostWait {
 
     const CODE: u8 = 3;
 
-    ghost CODE = { 3 };
+    ghost number = { 3 };
 
     ghost Meaning = { Bought };
 
@@ -34,6 +34,10 @@ impl Grade for CostWait {
     ghost kind = { cost_wait_kind };
 
     ghost laws = { cost_wait_laws };
+
+    fn kind_code() -> u8 {
+        Self::CODE
+    }
 
     fn empty() -> CostWait {
         CostWait { cents: 0, days: 0 }

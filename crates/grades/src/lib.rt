@@ -19,8 +19,8 @@ pub trait Grade: Copy {
     /// The number of the kind.
     const CODE: u8;
 
-    // the same number, in a contract
-    ghost CODE: { ℕ };
+    // the number of the kind, in a contract
+    ghost number: { ℕ };
 
     // the grades that the kind has
     ghost Meaning: { Type 0 };
@@ -36,10 +36,7 @@ pub trait Grade: Copy {
     /// The number of the kind.
     // A function beside the constant, since a contract of generic code can name no constant of a trait.
     fn kind_code() -> u8
-        ensures { result ≡ CODE }
-    {
-        Self::CODE
-    }
+        ensures { result ≡ number };
 
     /// The empty grade.
     fn empty() -> Self
@@ -71,7 +68,7 @@ impl Grade for Mass {
 
     const CODE: u8 = 0;
 
-    ghost CODE = { 0 };
+    ghost number = { 0 };
 
     ghost Meaning = { ℤ };
 
@@ -82,6 +79,10 @@ impl Grade for Mass {
     ghost kind = { mass_kind };
 
     ghost laws = { mass_laws };
+
+    fn kind_code() -> u8 {
+        Mass::CODE
+    }
 
     fn empty() -> Mass {
         Mass { grams: 0 }
@@ -114,7 +115,7 @@ impl Grade for Wait {
 
     const CODE: u8 = 1;
 
-    ghost CODE = { 1 };
+    ghost number = { 1 };
 
     ghost Meaning = { ℕ };
 
@@ -125,6 +126,10 @@ impl Grade for Wait {
     ghost kind = { wait_kind };
 
     ghost laws = { wait_laws };
+
+    fn kind_code() -> u8 {
+        Wait::CODE
+    }
 
     fn empty() -> Wait {
         Wait { days: 0 }
@@ -157,7 +162,7 @@ impl Grade for MassPrice {
 
     const CODE: u8 = 2;
 
-    ghost CODE = { 2 };
+    ghost number = { 2 };
 
     ghost Meaning = { Priced };
 
@@ -168,6 +173,10 @@ impl Grade for MassPrice {
     ghost kind = { mass_price_kind };
 
     ghost laws = { mass_price_laws };
+
+    fn kind_code() -> u8 {
+        MassPrice::CODE
+    }
 
     fn empty() -> MassPrice {
         MassPrice { grams: 0, price: 0 }
