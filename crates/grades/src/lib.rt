@@ -199,7 +199,7 @@ impl Grade for MassPrice {
     }
 
     fn ranks_no_later(&self, other: &MassPrice) -> bool {
-        self <= other
+        self.cmp(other).is_le()
     }
 }
 
