@@ -172,7 +172,8 @@ pub fn put_on<G: Grade>(weight: &G, best: Option<G>) -> Option<G>
 fn terminal_grade<G: Grade>(one: bool) -> Option<G>
     ensures { mapped G.means result ≡ (if one then Some G.kind.empty else None) }
 {
-    one.then_some(G::empty())
+    // An `if`, so that a maker's empty grade is made only where it is wanted.
+    if one { Some(G::empty()) } else { None }
 }
 
 /// The grade that part i weighs.
