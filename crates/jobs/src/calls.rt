@@ -141,6 +141,6 @@ impl<'a> Job<'a> {
         if choice.0 >> self.parts != 0 {
             return Err(Refusal::PartOutOfRange);
         }
-        Ok(self.first_broken(choice))
+        Ok(self.ledger.first_broken(self.parts, choice))
     }
 }

@@ -5,7 +5,7 @@ ghost use Rattle.limits.specs.Limits.{keeps, sum};
 ghost use Rattle.jobs.specs.Books.{limits_of, blank};
 ghost use Rattle.jobs.specs.Calls.{broken};
 
-use crate::Job;
+use crate::ledger::Ledger;
 use limits::{Choice, Limit, Sense};
 
 // The coefficient of a part if it is fitted, else 0.
@@ -16,39 +16,41 @@ fn taken(coefficient: &i32, fitted: bool) -> i64
     if fitted { i64::from(*coefficient) } else { 0 }
 }
 
-impl<'a> Job<'a> {
-    // The coefficients of the fitted parts, added up.
-    fn summed(&self, limit: &Limit, choice: Choice) -> i64
-        ensures { result ≡ sum limit.now.coefficients (bits self.now.parts choice.0) }
-    {
-        let mut total = 0i64;
-        // The word is halved beside the coefficients, as `bits` reads a word.
-        let mut rest = choice.0;
-        for coefficient in &limit.coefficients[..self.parts as usize] {
-            total += taken(coefficient, rest % 2 == 1);
-            rest /= 2;
-        }
-        total
+// The coefficients of the fitted parts, added up.
+fn summed(limit: &Limit, parts: u8, choice: Choice) -> i64
+    requires few { parts ≤ 48 }
+    ensures { result ≡ sum limit.now.coefficients (bits parts choice.0) }
+{
+    let mut total = 0i64;
+    // The word is halved beside the coefficients, as `bits` reads a word.
+    let mut rest = choice.0;
+    for coefficient in &limit.coefficients[..parts as usize] {
+        total += taken(coefficient, rest % 2 == 1);
+        rest /= 2;
     }
+    total
+}
 
-    // Whether a choice keeps a limit.
-    fn is_kept(&self, limit: &Limit, choice: Choice) -> bool
-        ensures { result ≡ keeps limit.now (bits self.now.parts choice.0) }
-    {
-        let total = self.summed(limit, choice);
-        match limit.sense {
-            Sense::AtMost => total <= i64::from(limit.bound),
-            Sense::AtLeast => i64::from(limit.bound) <= total,
-        }
+// Whether a choice keeps a limit.
+fn is_kept(limit: &Limit, parts: u8, choice: Choice) -> bool
+    requires few { parts ≤ 48 }
+    ensures { result ≡ keeps limit.now (bits parts choice.0) }
+{
+    let total = summed(limit, parts, choice);
+    match limit.sense {
+        Sense::AtMost => total <= i64::from(limit.bound),
+        Sense::AtLeast => i64::from(limit.bound) <= total,
     }
+}
 
+impl Ledger {
     /// The first standing limit that the choice breaks.
-    pub(crate) fn first_broken(&self, choice: Choice) -> Option<usize>
-        ensures { broken 0 (limits_of self.now.ledger.records self.now.ledger.count) (bits self.now.parts choice.0) ≡ result }
+    pub fn first_broken(&self, parts: u8, choice: Choice) -> Option<usize>
+        requires few { parts ≤ 48 }
+        ensures { broken 0 (limits_of self.now.records self.now.count) (bits parts choice.0) ≡ result }
     {
-        self.ledger
-            .standing()
+        self.standing()
             .iter()
-            .position(|record| !self.is_kept(&record.limit, choice))
+            .position(|record| !is_kept(&record.limit, parts, choice))
     }
 }

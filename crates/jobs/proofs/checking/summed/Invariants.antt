@@ -1,7 +1,7 @@
 use Rattle.std.proofs.Common.{◌≡◌, ◌-◌, ◌*◌, ◌^◌, ◌≤◌, length, drop, ◌+ℤ◌, nat_abs}
 use Rattle.limits.specs.Limits.{sum}
 use Rattle.limits.specs.Choices.{bits}
-use Rattle.jobs.proofs.Job.summed.Given as goal
+use Rattle.jobs.proofs.checking.summed.Given as goal
 
 abbrev pub invariant-loop-coefficient : goal.invariant-loop-coefficient
 invariant-loop-coefficient l =
