@@ -1,4 +1,5 @@
-use Rattle.std.proofs.Common.{◌≡◌, ℕ, zero, suc, ◌+◌, ◌-◌, ◌*◌, ◌/◌, ◌%◌, ◌^◌, ◌<◌, ◌≤◌, Bool, true, false, cond, ltb, List, [], ◌∷◌, ◌++◌, length, sym, refl, ap, ◌∙◌, append_assoc, arith, ltb-false, le-ltb, lt-ltb}
+use Rattle.std.proofs.Common.{◌≡◌, ℕ, zero, suc, ◌+◌, ◌-◌, ◌*◌, ◌/◌, ◌%◌, ◌^◌, ◌<◌, ◌≤◌, Bool, true, false, cond, ltb, List, [], ◌∷◌, ◌++◌, length, set, sym, refl, ap, ◌∙◌, arith, ltb-false, le-ltb, lt-ltb}
+use lib.Seq.{sets}
 use native.Mathlib.Nat.{pow-succ'}
 use Rattle.numbers.specs.Numbers.{read, rest_of_number, decode, groups, encode}
 use Rattle.numbers.proofs.Steps.{ends}
@@ -44,13 +45,19 @@ unfolding groups
 length_some zero v = omega arith
 length_some (suc l) v = length_cases (ltb v 128) l v
 
--- the bytes ys are those before and one group more
-pub more_spelled : (xs ys : List ℕ) (left l v b : ℕ) (all : List ℕ) → ys ≡ xs ++ (b ∷ []) → b ≡ v % 128 + 128 → l ≡ left - 1 → 0 < left → 128 ≤ v
-    → xs ++ groups left v ≡ all → ys ++ groups l (v / 128) ≡ all
-more_spelled xs ys left l v b all s p e h k i =
-    rw s (append_assoc xs (b ∷ []) (groups l (v / 128))
-    ∙ ap (λ g. xs ++ g) (rw (p, e) (sym (groups_more left v h k))) ∙ i)
+pub length_more : (left l v : ℕ) → l ≡ left - 1 → 0 < left → 128 ≤ v → length (groups left v) ≡ 1 + length (groups l (v / 128))
+length_more left l v e h k = ap length (groups_more left v h k) ∙ rw e (omega arith)
 
--- the bytes ys are those before and the last group
-pub last_spelled : (xs ys : List ℕ) (left v : ℕ) (all : List ℕ) → ys ≡ xs ++ (v ∷ []) → v < 128 → xs ++ groups left v ≡ all → ys ≡ all
-last_spelled xs ys left v all s h i = s ∙ ap (λ g. xs ++ g) (sym (groups_last left v h)) ∙ i
+pub length_last : (left v : ℕ) → v < 128 → length (groups left v) ≡ 1
+length_last left v h = ap length (groups_last left v h)
+
+pub sets_more : (xs : List ℕ) (i left l v b : ℕ) → b ≡ v % 128 + 128 → l ≡ left - 1 → 0 < left → 128 ≤ v
+    → sets xs i (groups left v) ≡ sets (set xs i b) (i + 1) (groups l (v / 128))
+sets_more xs i left l v b p e h k =
+    ap (sets xs i) (groups_more left v h k)
+    ∙ ap (λ j. sets (set xs i (v % 128 + 128)) j (groups (left - 1) (v / 128))) (omega arith)
+    ∙ ap (λ n. sets (set xs i (v % 128 + 128)) (i + 1) (groups n (v / 128))) (sym e)
+    ∙ ap (λ n. sets (set xs i n) (i + 1) (groups l (v / 128))) (sym p)
+
+pub sets_last : (xs : List ℕ) (i left v : ℕ) → v < 128 → sets xs i (groups left v) ≡ set xs i v
+sets_last xs i left v h = ap (sets xs i) (groups_last left v h)

@@ -1,15 +1,34 @@
 //! Bytes put into a lent slice, one after another.
-ghost use Rattle.std.specs.Prelude.{◌≡◌, ◌-◌, length};
+ghost use Rattle.std.specs.Prelude.{◌≡◌, ◌+◌, ◌-◌, ◌≤◌, length};
+ghost use Rattle.std.proofs.lemmas.List.Edits.{sets};
 ghost use Rattle.numbers.specs.Numbers.{encode, encode_signed};
 ghost use Rattle.numbers.specs.Cursors.{HasRoom, Puts};
 
-use crate::{spelling, unsigned_of};
+use crate::unsigned_of;
 
 /// A lent slice, and the place in it where the next bytes go.
 #[derive(Drop)]
 pub struct Cursor<'a> {
     out: &'a mut [u8],
     at: usize,
+}
+
+// Puts a number from a place on where there is room, and says where it ends.
+// By a loop that stores each byte in its place: how many there are is known once the rest is below 128.
+fn put_groups(out: &mut [u8], at: usize, value: u32) -> usize
+    requires { at + length (encode value) ≤ length out.old }
+    ensures end { result ≡ at + length (encode value) }
+    ensures out { out.new ≡ sets out.old at (encode value) }
+{
+    let mut rest = value;
+    let mut next = at;
+    while rest >= 128 {
+        out[next] = (rest % 128 + 128) as u8;
+        rest /= 128;
+        next += 1;
+    }
+    out[next] = rest as u8;
+    next + 1
 }
 
 impl<'a> Cursor<'a> {
@@ -49,7 +68,7 @@ impl<'a> Cursor<'a> {
         requires { HasRoom (encode value) self.old }
         ensures { Puts (encode value) self.old self.new }
     {
-        self.put_bytes(&spelling(value));
+        self.at = put_groups(self.out, self.at, value);
     }
 
     /// Puts a signed number where there is room.

@@ -6,7 +6,6 @@ ghost use Rattle.std.proofs.lemmas.List.Edits.{sets};
 ghost use Rattle.numbers.specs.Numbers.{fault_number, reading_of, read_number, read_signed, signed_of, unsigned_of, encode, encode_signed, Written};
 ghost use Rattle.numbers.specs.Laws.{ReadsBack, SignedReadsBack, OneSpelling, SignedOneSpelling};
 
-use arrayvec::ArrayVec;
 use cursors::Cursor;
 
 pub mod cursors;
@@ -85,28 +84,20 @@ pub fn read_signed(bytes: &[u8], at: usize) -> Result<(i32, usize), NumberFault>
     Ok((signed_of(n), next))
 }
 
-// The bytes of a number, which are five at most. By a loop: how many there are is known once the rest is below 128.
-fn spelling(value: u32) -> ArrayVec<u8, 5>
-    ensures { result.items ≡ encode value }
-{
-    let mut bytes = ArrayVec::new();
-    let mut rest = value;
-    while rest >= 128 {
-        bytes.push((rest % 128 + 128) as u8);
-        rest /= 128;
-    }
-    bytes.push(rest as u8);
-    bytes
-}
-
 /// How many bytes a number takes.
-#[tactic(auto, using(crate::proofs::Writes::length_some))]
 pub fn width(value: u32) -> usize
     ensures is { result ≡ length (encode value) }
     ensures some { 0 < result }
     ensures few { result ≤ 5 }
 {
-    spelling(value).len()
+    // By a loop: how many groups there are is known once the rest is below 128.
+    let mut rest = value;
+    let mut n = 1;
+    while rest >= 128 {
+        rest /= 128;
+        n += 1;
+    }
+    n
 }
 
 /// How many bytes a signed number takes.
