@@ -1,5 +1,5 @@
 -- a record put piece by piece
-use Rattle.std.proofs.Common.{◌≡◌, ℕ, ◌+◌, ◌-◌, ◌<◌, ◌≤◌, List, ◌++◌, length, get_or, drop, pos, sym, ap, ◌∙◌, arith, length-append}
+use Rattle.std.proofs.Common.{◌≡◌, ℕ, ◌+◌, ◌-◌, ◌<◌, ◌≤◌, List, ◌++◌, length, get_or, drop, Ok, pos, sym, ap, ◌∙◌, arith, length-append}
 use Rattle.std.proofs.lemmas.List.{at_drop_more}
 use Rattle.std.proofs.lemmas.Bool.{le-leb}
 use Rattle.limits.specs.declared.drafts.Term.{Term}
@@ -11,6 +11,9 @@ use Rattle.numbers.proofs.Chains.{puts_then}
 use Rattle.records.specs.Sheets.{Saying}
 use Rattle.spelling.specs.Spelling.{spelled_terms, kind_of, payload, spelled}
 use Rattle.spelling.specs.Judging.{judge, refusal_of}
+use Rattle.spelling.specs.Laws.{BackIn}
+use Rattle.spelling.proofs.Back.{back_in}
+use Rattle.recording.specs.Writing.{Appended}
 
 -- three pieces, one after another
 pub puts_three : (s t u : List ℕ) (a b c d : Cursor) → Puts s a b → Puts t b c → Puts u c d → Puts (s ++ (t ++ u)) a d
@@ -45,3 +48,7 @@ puts_term ts i t a b c d h p q r =
 pub term_length : (ts : List Term) (i : ℕ) (t : Term) → i < length ts → length (spelled_terms (drop i ts))
     ≡ length (encode (get_or ts i t).part) + (length (encode_signed (get_or ts i t).coefficient) + length (spelled_terms (drop (i + 1) ts)))
 term_length ts i t h = ap length (at_drop_more (λ s. spelled_terms s) ts i t h) ∙ simp length-append
+
+-- a record that is appended is read back there
+pub appended_back : (s : Saying) (was is : List ℕ) (at end : ℕ) → Appended s was at is (Ok end) → BackIn s is at end
+appended_back s was is at end h = back_in s was is at end h.0 h.1 h.2 h.3

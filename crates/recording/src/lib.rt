@@ -6,7 +6,6 @@ ghost use Rattle.records.specs.Sheets.{goal_says, end_says};
 ghost use Rattle.recording.specs.Writing.{refusal_number, saying};
 
 use limits::drafts::Term;
-use numbers::cursors::Cursor;
 use records::{Goal, Record};
 
 mod judging;
@@ -49,8 +48,9 @@ pub fn end_entry() -> Entry<'static>
     Record::End
 }
 
-/// A lent slice, and the place after what is written in it.
+/// A lent slice, and how many of its bytes are written.
 #[derive(Drop)]
 pub struct Writer<'a> {
-    cursor: Cursor<'a>,
+    out: &'a mut [u8],
+    len: usize,
 }

@@ -47,29 +47,31 @@ pub fn write(out: &mut [u8], at: usize, entry: Entry) -> Result<usize, Refusal>
 impl<'a> Writer<'a> {
     /// A writer that has written nothing.
     pub fn new(out: &'a mut [u8]) -> Writer<'a>
-        ensures { (result.cursor.at ≡ 0) × (result.cursor.out.now ≡ out.old) × (result.cursor.out.ghost_name ≡ out.entry.ghost_name) }
+        ensures { (result.len ≡ 0) × (result.out.now ≡ out.old) × (result.out.ghost_name ≡ out.entry.ghost_name) }
     {
-        Writer {
-            cursor: Cursor::new(out, 0),
-        }
+        Writer { out, len: 0 }
     }
 
     /// How many bytes are written.
     pub fn len(&self) -> usize
-        ensures { result ≡ self.now.cursor.at }
+        ensures { result ≡ self.now.len }
     {
-        self.cursor.at()
+        self.len
     }
 
     /// Appends a record. A refusal leaves the writer and its bytes as they were.
+    #[tactic(auto, using(crate::proofs::Puts::appended_back))]
     pub fn append(&mut self, entry: Entry) -> Result<(), Refusal>
-        ensures same { self.new.cursor.out.ghost_name ≡ self.old.cursor.out.ghost_name }
-        ensures cases { Appended (saying entry.entry) self.old.cursor.out.now self.old.cursor.at self.new.cursor.out.now (ended result self.new.cursor.at) }
-        ensures left { MatchResult result (λ _. Unit {0}) (λ _. self.new.cursor.at ≡ self.old.cursor.at) }
+        ensures same { self.new.out.ghost_name ≡ self.old.out.ghost_name }
+        ensures cases { Appended (saying entry.entry) self.old.out.now self.old.len self.new.out.now (ended result self.new.len) }
+        ensures left { MatchResult result (λ _. Unit {0}) (λ _. self.new.len ≡ self.old.len) }
         ensures back { MatchResult result
-            (λ _. BackIn (saying entry.entry) self.new.cursor.out.now self.old.cursor.at self.new.cursor.at)
+            (λ _. BackIn (saying entry.entry) self.new.out.now self.old.len self.new.len)
             (λ _. Unit {0}) }
     {
-        put_record(&mut self.cursor, entry)
+        let at = self.len;
+        let end = write(self.out, at, entry)?;
+        self.len = end;
+        Ok(())
     }
 }
