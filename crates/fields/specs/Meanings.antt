@@ -9,11 +9,12 @@ use Rattle.fields.specs.Fields.{Answer, found, fault}
 abbrev pub fault_of : {A : Type 0} → Fault → Answer A
 fault_of f = fault (reason_number f.reason) (layer_number f.layer) f.place
 
--- a field is read as its definition says, to a place after it that is in the body; `view` is what a value is read as
+-- a field is read as its definition says, to a place after it that is in the body; `view` is what a value is read as.
+-- A refusal leaves the body and the record's place as they were; the place that is read next may have moved before it
 abbrev pub ReadsBy : {A B : Type 0} → (A → B) → Answer B → Payload → Payload → Result A Fault → Type 0
 ReadsBy view answer was is r = MatchResult r
     (λ v. (answer ≡ found (view v) is.at) × (was.at < is.at) × (is.at ≤ length is.body.now) × (is.body ≡ was.body) × (is.place ≡ was.place))
-    (λ f. answer ≡ fault_of f)
+    (λ f. (answer ≡ fault_of f) × (is.body ≡ was.body) × (is.place ≡ was.place))
 
 abbrev pub Reads : {A : Type 0} → Answer A → Payload → Payload → Result A Fault → Type 0
 Reads answer was is r = ReadsBy (λ v. v) answer was is r

@@ -8,7 +8,7 @@ returns-in_err-least c =
     let (n, ts, h, e) = c.loop-payload.invariant.2 in
     let more = c.loop-payload-test.ensures.cases in
     let z = e ∙ terms_fault ts n (n - 1) c.loop-payload.payload.body.now c.loop-payload.payload.place c.loop-payload.least c.loop-payload.payload.at _ _ _
-    (omega arith) more c.in_err-least.ensures.is in
+    (omega arith) more c.in_err-least.ensures.is.0 in
     search rules
 
 pub loop-payload-preserved : goal.loop-payload-preserved

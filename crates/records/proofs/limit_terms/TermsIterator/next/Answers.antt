@@ -17,7 +17,7 @@ pub returns-in_default-clause-steps : goal.returns-in_default-clause-steps
 returns-in_default-clause-steps c =
     let was = c.args.self.now in
     let h = c.if-is_at_end.ensures.cases in
-    let d = rw was.first at c.in_default.ensures.is in
+    let d = rw was.first at c.in_default.ensures.is.0 in
     record {
       is = sym (next_fault was.payload.body.now was.least was.payload.at _ _ _ h d);
       moves = refl;
