@@ -1,5 +1,5 @@
 -- What a write leaves among the pairs, and what a search finds.
-use Rattle.std.proofs.Common.{◌≡◌, ℕ, ◌+◌, ◌<◌, ◌⊎◌, ◌≢◌, List, [], ◌∷◌, ◌++◌, length, drop, set, Bool, true, false, Some, None, Option, MatchOption, ap, ◌∙◌, sym, arith}
+use Rattle.std.proofs.Common.{◌≡◌, ℕ, ◌+◌, ◌<◌, ◌⊎◌, ◌≢◌, List, [], ◌∷◌, ◌++◌, length, drop, set, Bool, true, false, Some, None, Option, MatchOption, ap, ◌∙◌, sym, subst, arith}
 use Rattle.std.specs.List.{All, AllPairs, AllWithin, Contains, HoldsAt}
 use Rattle.std.specs.Bool.{then_some}
 use Rattle.std.proofs.lemmas.Bool.{cases_eq, cases_order}
@@ -24,12 +24,16 @@ apart_drop : (xs : List Remembered) (n : ℕ) → Apart xs → Apart (drop n xs)
 apart_drop xs n apart i j d l m same = grind (arith, places, apart (n + i) (n + j) d)
 
 -- a pair comes behind the others, of which the first n go
-pub apart_push : (xs : List Remembered) (n : ℕ) (q : Question) (e : Edge) → All (λ x. x.question ≢ q) xs → Apart xs → Apart (drop n xs ++ pair q e ∷ [])
-apart_push xs n q e none apart = all_pairs_push (λ x y. x.question ≢ y.question) (drop n xs) (pair q e) (apart_drop xs n apart) (All-drop (λ x. x.question ≢ q) n xs none)
+pub apart_push : (xs ys : List Remembered) (n : ℕ) (q : Question) (e : Edge) → ys ≡ drop n xs ++ pair q e ∷ [] → All (λ x. x.question ≢ q) xs → Apart xs → Apart ys
+apart_push xs ys n q e is none apart =
+    subst Apart (sym is) (all_pairs_push (λ x y. x.question ≢ y.question) (drop n xs) (pair q e) (apart_drop xs n apart) (All-drop (λ x. x.question ≢ q) n xs none))
 
 -- what is held then was held before, or is that pair
-pub contains_push : (xs : List Remembered) (n : ℕ) (q : Question) (e : Edge) (p : Question) (f : Edge) → Contains (drop n xs ++ pair q e ∷ []) (pair p f) → Contains xs (pair p f) ⊎ ((p ≡ q) × (f ≡ e))
-contains_push xs n q e p f h = grind (arith, common_steps, places)
+pub contains_push : (xs ys : List Remembered) (n : ℕ) (q : Question) (e : Edge) → ys ≡ drop n xs ++ pair q e ∷ []
+    → (p : Question) (f : Edge) → Contains ys (pair p f) → Contains xs (pair p f) ⊎ ((p ≡ q) × (f ≡ e))
+contains_push xs ys n q e is p f h =
+    let held = subst (λ zs. Contains zs (pair p f)) is h in
+    grind (arith, common_steps, places)
 
 -- a question has one result at most
 pub one_edge : (xs : List Remembered) (q : Question) (e f : Edge) → Apart xs → Contains xs (pair q e) → Contains xs (pair q f) → e ≡ f

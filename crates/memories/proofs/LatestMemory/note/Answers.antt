@@ -1,5 +1,4 @@
-use Rattle.std.proofs.Common.{◌≡◌, [], ◌∷◌, ◌++◌, ◌-◌, length, drop, set, sym, subst, rules}
-use Rattle.std.specs.List.{Contains}
+use Rattle.std.proofs.Common.{◌-◌, length, set, sym, subst, rules}
 use Rattle.arrayvec.proofs.ArrayVecLemmas.{items-with_items}
 use Rattle.memories.specs.Held.{pair}
 use Rattle.memories.proofs.Pairs.{Apart, apart_set, apart_push, contains_push}
@@ -14,11 +13,9 @@ invariant_of-self c =
 pub invariant_of-self-in-None : goal.invariant_of-self-in-None
 invariant_of-self-in-None c =
     let xs = c.args.self.now.pairs.items in
-    let is : c.push.new.self.items ≡ drop (length xs - 63) xs ++ pair c.args.q c.args.e ∷ [] = search rules in
-    record { once = subst Apart (sym is) (apart_push xs (length xs - 63) c.args.q c.args.e (search rules) c.args.self.now.once) }
+    record { once = apart_push xs _ (length xs - 63) c.args.q c.args.e (search rules) (search rules) c.args.self.now.once }
 
 pub returns-after-is_full-clause-old : goal.returns-after-is_full-clause-old
-returns-after-is_full-clause-old c = λ p f h.
+returns-after-is_full-clause-old c =
     let xs = c.args.self.now.pairs.items in
-    let is : c.push.new.self.items ≡ drop (length xs - 63) xs ++ pair c.args.q c.args.e ∷ [] = search rules in
-    contains_push xs (length xs - 63) c.args.q c.args.e p f (subst (λ ys. Contains ys (pair p f)) is h)
+    contains_push xs _ (length xs - 63) c.args.q c.args.e (search rules)
