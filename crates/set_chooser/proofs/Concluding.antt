@@ -1,5 +1,5 @@
 -- A verdict's text is the text of what the sheet comes to.
-use Rattle.std.proofs.Common.{◌≡◌, ℕ, suc, Bool, true, false, cond, List, [], ◌∷◌, map, length, Some, None, Option, Ok, Err, Result, sym, refl, ap, ◌∙◌, subst, ap₂, arith}
+use Rattle.std.proofs.Common.{◌≡◌, ℕ, suc, Bool, true, false, cond, List, [], ◌∷◌, length, Some, None, Option, Ok, Err, Result, sym, refl, ap, ◌∙◌, subst, ap₂, arith}
 use Rattle.std.proofs.lemmas.List.{length-map}
 use Rattle.limits.specs.Choices.{bits}
 use Rattle.limits.specs.Limits.{keeps_all}
@@ -15,22 +15,11 @@ use Rattle.jobs.specs.Calls.{Standing, standing}
 use Rattle.listings.specs.declared.Grade.{Grade}
 use Rattle.listings.specs.declared.Grade.TheVariants.{Mass, Wait}
 use Rattle.listings.specs.Listings.{best_text, fitted}
-use Rattle.sheets.specs.declared.Figures.{Figures}
-use Rattle.sheets.specs.Notes.{part_of}
-use Rattle.sheets.specs.Told.{Part, Told, masses_of, waits_of, costs_of, whole, read_sheet}
+use Rattle.sheets.specs.Told.{Told, masses_of, waits_of, costs_of, whole, read_sheet}
 use Rattle.set_chooser.specs.Listing as said
 use Rattle.set_chooser.specs.Listing.{Outcome, fault_at, nothing, by_kind, by_goal, shown_price, concluded, text, listing}
 use Rattle.set_chooser.specs.Verdicts.{Judged, JudgedFor, verdict_text}
 use Rattle.set_chooser.specs.declared.solved.Best.{Best}
-
--- what the noted figures weigh is what the parts weigh
-pub weighed : {W V : Type 0} (weight : Part → W) (weighs : W → V) (fs : List Figures) → map weighs (map (λ f. weight (part_of f)) fs) ≡ map (λ p. weighs (weight p)) (map part_of fs)
-weighed weight weighs [] = refl
-weighed weight weighs (f ∷ fs) = ap (λ xs. weighs (weight (part_of f)) ∷ xs) (weighed weight weighs fs)
-
--- a verdict for a goal is one for the goal that it is
-pub for_goal : (g h : Goal) → g ≡ h → (ps : List Part) (s : Standing) (rows : Goal → ℕ) (v : Result (Option Best) Refusal) → JudgedFor h ps s (rows h) v → JudgedFor g ps s (rows g) v
-for_goal g h e ps s rows v j = subst (λ x. JudgedFor x ps s (rows x) v) (sym e) j
 
 chosen_size : {G : Type 0} (K : Kind G) (ws : List G) (passes : List Bool → Bool) → length (chosen K ws passes) ≡ length ws
 chosen_size K [] passes = refl

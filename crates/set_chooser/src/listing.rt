@@ -7,10 +7,13 @@ ghost use Rattle.set_chooser.specs.Promise.{RightListing};
 
 use crate::solved::{Verdict, solved};
 use fields::Layer;
+use jobs::Job;
 use listings::{FaultLine, write_best, write_fault, write_nothing};
 use memories::Memory;
+use records::Reader;
 use rows::RowTables;
-use sheets::reading::Sheet;
+use sheets::Notes;
+use sheets::reading::read_all;
 use tables::Place;
 
 // A sheet has at most so many bytes.
@@ -85,9 +88,11 @@ fn listed<M: Memory>(
     if sheet.len() > LONGEST_SHEET {
         return write_bare_fault(out, WholeFault::TooLong.number());
     }
-    let mut sheet = Sheet::new(sheet, places);
-    match sheet.read_all(memory) {
-        Ok(()) => write_verdict(out, sheet.names(), solved(&sheet, rows)),
+    let mut reader = Reader::new(sheet);
+    let mut job = Job::new(places);
+    let mut notes = Notes::new();
+    match read_all(&mut reader, &mut job, memory, &mut notes) {
+        Ok(()) => write_verdict(out, reader.names(), solved(&job, &notes, rows)),
         Err(first) => write_fault(
             out,
             FaultLine {

@@ -1,9 +1,9 @@
 //! What solving a sheet that is read comes to.
-ghost use Rattle.std.specs.Prelude.{◌≡◌, ◌≤◌, map, length};
+ghost use Rattle.std.specs.Prelude.{◌≡◌, ◌≤◌, List, map, length};
 ghost use Rattle.jobs.specs.Stands.{stands};
-ghost use Rattle.listings.specs.declared.Grade.{Grade as Shown};
+ghost use Rattle.sheets.specs.Told.{Part};
 ghost use Rattle.sheets.specs.Notes.{part_of, parts_of};
-ghost use Rattle.set_chooser.specs.Verdicts.{rows_lent, Judged, JudgedFor};
+ghost use Rattle.set_chooser.specs.Verdicts.{rows_lent, JudgedFor};
 
 use crate::kinds::GoalKind;
 use arrayvec::ArrayVec;
@@ -13,8 +13,7 @@ use limits::{Choice, Refusal};
 use listings::Grade;
 use records::Goal;
 use rows::{Row, RowTables, Rows};
-use sheets::Figures;
-use sheets::reading::Sheet;
+use sheets::{Figures, Notes};
 
 /// The rule's choice, and its grade as a listing shows it.
 #[derive(Clone, Copy, PartialEq, Eq, Debug, Drop)]
@@ -32,7 +31,7 @@ fn weights<G: GoalKind>(figures: &[Figures]) -> ArrayVec<G::Weight, 48>
 where
     G::Weight: Default + Drop,
     requires { length figures.now ≤ 48 }
-    ensures { result.items ≡ map (λ f. G.weight_of (part_of f)) figures.now }
+    ensures { result.items ≡ map G.weight_of (map part_of figures.now) }
 {
     let mut weights = ArrayVec::new();
     for next in figures {
@@ -43,7 +42,7 @@ where
 
 // Solves by one kind of grade, and shows the grade as a listing does; the calls of a log, whose grades stay as they are, are solved on their own.
 fn solved_by<G: GoalKind>(job: &Job, weights: &[G::Weight], lent: &mut [Row<G>]) -> Verdict
-    ensures { (shown : G.Meaning → Shown) → ((g : G) → G.shown g ≡ shown (G.means g)) → Judged G.kind shown (map G.weighs weights.now) (stands job.now) (length lent.old) result }
+    ensures { (ps : List Part) → weights.now ≡ map G.weight_of ps → JudgedFor G.goal ps (stands job.now) (length lent.old) result }
 {
     let answer = job.solve(weights, &mut Rows::new(lent))?;
     Ok(answer.map(|answer| Best {
@@ -53,12 +52,11 @@ fn solved_by<G: GoalKind>(job: &Job, weights: &[G::Weight], lent: &mut [Row<G>])
 }
 
 /// Solves the sheet's parts and limits for its goal.
-pub fn solved(sheet: &Sheet, rows: &mut RowTables) -> Verdict
-    ensures { JudgedFor sheet.now.notes.goal (parts_of sheet.now.notes) (stands sheet.now.job) (rows_lent rows.old sheet.now.notes.goal) result }
+pub fn solved(job: &Job, notes: &Notes, rows: &mut RowTables) -> Verdict
+    ensures { JudgedFor notes.now.goal (parts_of notes.now) (stands job.now) (rows_lent rows.old notes.now.goal) result }
 {
-    let job = sheet.job();
-    let figures = sheet.notes().figures();
-    match sheet.notes().goal() {
+    let figures = notes.figures();
+    match notes.goal() {
         Goal::Mass => solved_by(job, &weights::<Mass>(figures), rows.mass),
         Goal::Wait => solved_by(job, &weights::<Wait>(figures), rows.wait),
         Goal::MassPrice => solved_by(job, &weights::<MassPrice>(figures), rows.mass_price),

@@ -1,6 +1,8 @@
 -- The loop over a sheet's records is the definition's recursion.
-use Rattle.std.proofs.Common.{◌≡◌, ℕ, zero, suc, ◌+◌, ◌-◌, ◌<◌, ◌≤◌, min, leb, List, length, sym, ap, ◌∙◌, arith, le-leb}
+use Rattle.std.proofs.Common.{◌≡◌, ℕ, zero, suc, ◌+◌, ◌-◌, ◌<◌, ◌≤◌, min, leb, List, [], length, sym, ap, ◌∙◌, arith, le-leb}
 use Rattle.std.proofs.lemmas.Bool.{cond-true}
+use Rattle.records.specs.declared.Goal.TheVariants.{Mass}
+use Rattle.records.specs.declared.Stage.TheVariants.{Parts}
 use Rattle.sheets.specs.Told.{Told, untold, Step, broken, ended, goes_on, one_step, Reading, whole, faulty, read_all, read_sheet}
 
 -- from here on, reading comes to `total`
@@ -18,6 +20,17 @@ on_step more room sheet i s =
 read_suc : (more room : ℕ) (sheet : List ℕ) (i : ℕ) (t : Told) (at : ℕ) (s : Step) → s ≡ one_step room sheet t at → read_all (suc more) room sheet i t at ≡ on_step more room sheet i s
 unfolding read_all on_step
 read_suc more room sheet i t at s e = ap (on_step more room sheet i) (sym e)
+
+pub rest_start : (room : ℕ) (sheet : List ℕ) (t : Told) (at : ℕ) → at ≡ 0 → t.stage ≡ Parts → t.names ≡ [] → t.parts ≡ [] → t.limits ≡ [] → t.goal ≡ Mass
+    → Rest room sheet 0 t at (read_all (suc (length sheet)) room sheet 0 untold 0)
+rest_start room sheet t at a b c d e f =
+    let same : t ≡ untold =
+    ap (λ x. record { stage = x; names = t.names; parts = t.parts; limits = t.limits; goal = t.goal }) b
+    ∙ ap (λ x. record { stage = Parts; names = x; parts = t.parts; limits = t.limits; goal = t.goal }) c
+    ∙ ap (λ x. record { stage = Parts; names = []; parts = x; limits = t.limits; goal = t.goal }) d
+    ∙ ap (λ x. record { stage = Parts; names = []; parts = []; limits = x; goal = t.goal }) e
+    ∙ ap (λ x. record { stage = Parts; names = []; parts = []; limits = []; goal = x }) f in
+    (suc (length sheet), omega arith, ap (λ x. read_all (suc (length sheet)) room sheet 0 x at) same ∙ ap (λ i. read_all (suc (length sheet)) room sheet 0 untold i) a)
 
 module _ (room : ℕ) (sheet : List ℕ) (i : ℕ) (t : Told) (at : ℕ) (total : Reading) where
   pub rest_more : (u : Told) (next : ℕ) → goes_on u next ≡ one_step room sheet t at → at < next → next ≤ length sheet → Rest room sheet i t at total → Rest room sheet (i + 1) u next total

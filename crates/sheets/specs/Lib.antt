@@ -1,5 +1,4 @@
 pub mod Told
 pub mod Faults
 pub mod Notes
-pub mod Sheets
 pub mod Says

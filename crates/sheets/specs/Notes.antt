@@ -3,6 +3,10 @@ use Rattle.std.specs.Prelude.{◌≡◌, ℕ, List, map, length, Ok, Err, Result
 use Rattle.limits.specs.declared.Limit.{Limit}
 use Rattle.records.specs.declared.Stage.{Stage}
 use Rattle.records.specs.declared.Stage.TheVariants.{Parts}
+use Rattle.records.specs.declared.Reader.{Reader}
+use Rattle.records.specs.Meanings.{held_names}
+use Rattle.jobs.specs.declared.Job.{Job}
+use Rattle.jobs.specs.Stands.{stands}
 use Rattle.sheets.specs.Told.{Part, Told, Step, broken, ended, goes_on, Reading, whole, faulty}
 use Rattle.sheets.specs.Faults.{number_of, layer_of, place_of}
 use Rattle.sheets.specs.declared.Figures.{Figures}
@@ -18,6 +22,10 @@ part_of f = record { mass = f.mass; wait = f.wait; price = f.price }
 -- the parts that are noted
 abbrev pub parts_of : Notes → List Part
 parts_of d = map part_of d.figures.items
+
+-- what the reader, the job and the notes tell together
+abbrev pub told_of : Reader → Job → Notes → Told
+told_of r j d = record { stage = r.stage; names = held_names r; parts = parts_of d; limits = (stands j).limits; goal = d.goal }
 
 -- what reading one record came to, where so much is told after it and the next record stands at a place
 abbrev pub came_to : Result Progress SheetFault → Told → ℕ → Step

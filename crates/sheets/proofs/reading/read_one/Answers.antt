@@ -2,15 +2,14 @@ use Rattle.std.proofs.Common.{length, sym, ap, ◌∙◌}
 use Rattle.fields.specs.Fields.{found}
 use Rattle.records.specs.Sheets.{part_says, stage_after, names_after}
 use Rattle.records.specs.Meanings.{said, held_names}
-use Rattle.jobs.specs.Stands.{stands}
+use Rattle.jobs.specs.Stands.{stands, places}
 use Rattle.sheets.specs.Notes.{parts_of}
-use Rattle.sheets.specs.Sheets.{room}
 use Rattle.sheets.proofs.Onward.{begun_none, part_step}
-use Rattle.sheets.proofs.reading.Sheet.read_one.Goals as goal
+use Rattle.sheets.proofs.reading.read_one.Goals as goal
 
 pub returns-in-Part-clause-is : goal.returns-in-Part-clause-is
 returns-in-Part-clause-is g c =
-    let reader = c.args.self.now.reader in
+    let reader = c.args.reader.now in
     let part = c.in-Part.part in
     let read = c.in_ok-placed.ensures in
     let figures = c.into.result in
@@ -21,5 +20,5 @@ returns-in-Part-clause-is g c =
     let is = by_wait ∙ ap (λ p. found (part_says part.name.now figures.mass figures.wait p) c.next.new.self.at) (sym price) in
     let stage = read.5 ∙ ap (λ r. stage_after reader.stage (said r)) c.in-Part.is in
     let names = read.6 ∙ ap (λ r. names_after (held_names reader) (said r)) c.in-Part.is in
-    let none = begun_none (stands c.args.self.now.job) (length c.figures.result.now) c.begin.new.self.parts (stands c.begin.new.self).limits c.figures.ensures.few c.begin.ensures.stands in
-    part_step (room c.args.self.now) reader.sheet.now reader.at c.next.new.self.at reader.stage c.next.new.self.stage (held_names reader) (held_names c.next.new.self) (parts_of c.args.self.now.notes) (parts_of c.push.new.self) (stands c.args.self.now.job).limits (stands c.begin.new.self).limits c.args.self.now.notes.goal c.push.new.self.goal part.name.now figures.mass figures.wait figures.price is stage names c.push.ensures.parts none c.push.ensures.goal c.args.self.now.none
+    let none = begun_none (stands c.args.job.now) (length c.figures.result.now) c.begin.new.self.parts (stands c.begin.new.self).limits c.figures.ensures.few c.begin.ensures.stands in
+    part_step (places c.args.job.now) reader.sheet.now reader.at c.next.new.self.at reader.stage c.next.new.self.stage (held_names reader) (held_names c.next.new.self) (parts_of c.args.notes.now) (parts_of c.push.new.self) (stands c.args.job.now).limits (stands c.begin.new.self).limits c.args.notes.now.goal c.push.new.self.goal part.name.now figures.mass figures.wait figures.price is stage names c.push.ensures.parts none c.push.ensures.goal c.requires.none
