@@ -1,6 +1,7 @@
 -- More nodes leave what the older ones denote, and a sound table takes a new node.
-use Rattle.std.proofs.Common.{◌≡◌, ℕ, zero, suc, ◌<◌, Bool, true, false, ◌⊎◌, List, [], ◌∷◌, ◌++◌, length, pos, ◌+ℤ◌, Some, sym, refl, ap, ◌∙◌, subst, inl, inr, ⊎_elim, arith}
+use Rattle.std.proofs.Common.{◌≡◌, ℕ, zero, suc, ◌<◌, Bool, true, false, cond, eqb, ◌⊎◌, List, [], ◌∷◌, ◌++◌, length, ℤ, pos, ◌+ℤ◌, Some, sym, refl, ap, ◌∙◌, subst, inl, inr, ⊎_elim, arith}
 use Rattle.std.specs.List.{slice_get}
+use Rattle.std.proofs.lemmas.Bool.{ne_eqb}
 use Rattle.std.proofs.lemmas.Option.{slice_get_within}
 use Rattle.diagrams.specs.declared.Child.{Child}
 use Rattle.diagrams.specs.declared.Child.TheVariants.{Terminal, Place}
@@ -69,3 +70,20 @@ ordered_push parts ns n ordered low l r = record {
   left = λ k q e. ⊎_elim (λ h. under_more ns _ _ _ _ (ordered.left k q h)) (λ h. subst (λ j. Under (ns ++ (n ∷ [])) (suc q.part) j q.left) (sym h.0) (under_end ns _ _ _ (subst (λ z. From ns (suc z.part) z.left) (sym h.1) l))) (nth_push ns n q k e);
   right = λ k q e. ⊎_elim (λ h. under_more ns _ _ _ _ (ordered.right k q h)) (λ h. subst (λ j. Under (ns ++ (n ∷ [])) (suc q.part) j q.right) (sym h.0) (under_end ns _ _ _ (subst (λ z. From ns (suc z.part) z.right) (sym h.1) r))) (nth_push ns n q k e);
 }
+
+-- a table without nodes is ordered
+pub ordered_none : (parts : ℕ) → Ordered parts []
+ordered_none parts = record { below = λ k n e. none k n e; left = λ k n e. none k n e; right = λ k n e. none k n e }
+  where
+    none : {A : Type 0} (k : ℕ) (n : Node) → slice_get [] k ≡ Some n → A
+    none k n e = let z : ◌≡◌ {A = ℕ} 0 1 = cc in absurd (omega arith)
+
+-- the other shape: newest first, an older table is a tail, and x says which parts are fitted
+abbrev pub value₁ : List Node → Child → (ℕ → Bool) → ℤ
+value₁ [] r x = pos 0
+value₁ (n ∷ older) Terminal x = pos 0
+value₁ (n ∷ older) (Place k) x =
+    cond (eqb k (length older)) (cond (x n.part) (n.value +ℤ value₁ older n.left x) (value₁ older n.right x)) (value₁ older (Place k) x)
+
+value₁_more : (n : Node) (older : List Node) (k : ℕ) (x : ℕ → Bool) → k < length older → value₁ (n ∷ older) (Place k) x ≡ value₁ older (Place k) x
+value₁_more n older k x h = rw (ne_eqb k (length older) (λ e. omega arith))

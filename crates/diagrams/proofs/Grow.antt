@@ -17,7 +17,7 @@ use Rattle.diagrams.proofs.Canonical.{value_fit, value_leave, Stands}
 use Rattle.diagrams.proofs.Extend.{nth_more, value_more, sound_push, nth_push, ordered_push}
 use Rattle.diagrams.proofs.Reached.{Denotes, stands_depends, own_table, in_own_part}
 use Rattle.diagrams.proofs.Held.{AtMost}
-use Rattle.diagrams.proofs.Steps.{allows_ext, from_lower}
+use Rattle.diagrams.proofs.Steps.{allows_ext, from_lower, cofactor_skip}
 
 pub grown_none : (ns : List Node) → Grown ns ns
 grown_none ns = record { more = []; is = sym (append_nil ns) }
@@ -178,3 +178,11 @@ settled_grown parts sound g i q x r fl fr s = record { operation_is = s.operatio
 
 pub sums_grown : (parts : ℕ) {a b : List Node} → Sound parts a → Grown a b → (ws : List ℤ) (i : ℕ) (e : Edge) → Sums parts a ws i e → Sums parts b ws i e
 sums_grown parts sound g ws i e s = record { from = from_grown g i _ s.from; equal = λ c h. edge_grown parts sound g i e c s.from ∙ s.equal c h }
+
+-- equal edges are joined without a node
+pub joined_same : (ns : List Node) (i : ℕ) (fit out : Edge) → fit ≡ out → From ns (suc i) fit.child → Joined ns i fit out fit
+joined_same ns i fit out e f = record {
+  from = from_lower ns i (suc i) _ (omega arith) f;
+  fitted = (cofactor_skip ns i fit true f).equal;
+  left_out = λ c. (cofactor_skip ns i fit false f).equal c ∙ ap (λ z. edge_at ns (suc i) z c) e;
+}

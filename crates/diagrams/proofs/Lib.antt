@@ -3,6 +3,7 @@ pub mod Tables
 pub mod Held
 pub mod Needed
 pub mod Reached
+pub mod Rooted
 pub mod Extend
 pub mod Steps
 pub mod Grow

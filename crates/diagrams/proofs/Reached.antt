@@ -1,5 +1,5 @@
 -- The nodes below an edge are the needed functions of what the edge denotes.
-use Rattle.std.proofs.Common.{◌≡◌, ℕ, zero, suc, ◌+◌, ◌-◌, Bool, true, false, cond, ◌⊎◌, List, [], ◌∷◌, ◌++◌, length, replicate, ℤ, pos, ◌+ℤ◌, ◌-ℤ◌, Some, None, sym, refl, ap, ◌∙◌, subst, inl, inr, ⊎_elim, arith}
+use Rattle.std.proofs.Common.{◌≡◌, ℕ, zero, suc, ◌+◌, ◌-◌, Bool, true, false, cond, ◌⊎◌, List, [], ◌∷◌, ◌++◌, length, replicate, ℤ, pos, ◌+ℤ◌, ◌-ℤ◌, Some, None, sym, refl, ap, ◌∙◌, subst, ap₂, inl, inr, ⊎_elim, arith}
 use lib.ListN.{length-replicate}
 use lib.IntN.{+ℤ_assoc}
 use Rattle.std.proofs.lemmas.Bool.{both_ways, cases_Bool, not_from_true, not_from_false}
@@ -7,12 +7,23 @@ use Rattle.std.proofs.lemmas.Int.{ints}
 use Rattle.std.specs.List.{slice_get}
 use Rattle.diagrams.specs.Needs.{table, less, depends, needed, same_table}
 use Rattle.diagrams.specs.declared.Child.{Child}
-use Rattle.diagrams.specs.declared.Child.TheVariants.{Place}
+use Rattle.diagrams.specs.declared.Child.TheVariants.{Terminal, Place}
 use Rattle.diagrams.specs.declared.Node.{Node}
 use Rattle.diagrams.specs.Nodes.{here, value, From, Sound}
 use Rattle.diagrams.specs.Held.{In, node_table}
-use Rattle.diagrams.proofs.Tables.{table_ext, table_same, same_table_eq, same_table_true, in_left, in_either}
-use Rattle.diagrams.proofs.Canonical.{same_ref, offsets, value_out, value_skip, value_fit, value_leave, view, View, Stands, SameEdge}
+use Rattle.diagrams.proofs.Tables.{table_ext, table_same, same_table_eq, same_table_true, in_left, in_right, in_either}
+use Rattle.diagrams.proofs.Canonical.{same_ref, only_terminal, offsets, value_out, value_skip, value_fit, value_leave, view, View, Stands, SameEdge}
+
+-- the node at k is r or below it
+pub data Reach (ns : List Node) (k : ℕ) : Child → Type 0 where
+  here_it : Reach ns k (Place k)
+  on_left : {j : ℕ} (n : Node) → slice_get ns j ≡ Some n → Reach ns k n.left → Reach ns k (Place j)
+  on_right : {j : ℕ} (n : Node) → slice_get ns j ≡ Some n → Reach ns k n.right → Reach ns k (Place j)
+
+no_reach : (ns : List Node) (k : ℕ) (r : Child) → r ≡ Terminal → Reach ns k r → ⊥
+no_reach ns k r e here_it = let z : ◌≡◌ {A = ℕ} 0 1 = cc in omega arith
+no_reach ns k r e (on_left q g h) = let z : ◌≡◌ {A = ℕ} 0 1 = cc in omega arith
+no_reach ns k r e (on_right q g h) = let z : ◌≡◌ {A = ℕ} 0 1 = cc in omega arith
 
 less_is : (a p q f g : ℤ) → p ≡ pos 0 → a +ℤ q ≡ f → a +ℤ p ≡ g → f -ℤ g ≡ q
 less_is a p q f g e h k = omega (arith, ints)
@@ -102,5 +113,45 @@ module _ (parts : ℕ) (ns : List Node) (sound : Sound parts ns) where
           let zero-value : n.value ≡ pos 0 = no_value a n.value both.0 in
           sound.reduced st.k n st.found (same_ref parts ns sound m (suc i) (omega arith) n.left n.right us.0 us.1 both.1) zero-value
 
+  abbrev Only : ℕ → ℕ → Type 0
+  Only m i = (a : ℤ) (r : Child) (f : List Bool → ℤ) → From ns i r → Denotes m i a r f → (k : ℕ) (n : Node) → slice_get ns k ≡ Some n → Reach ns k r → In (node_table parts ns k n) (needed m f)
+
   pub in_own_part : (m : ℕ) (f : List Bool → ℤ) (t : List ℤ) → depends m f ≡ true → table (suc m) (less (suc m) f) ≡ t → In t (needed (suc m) f)
   in_own_part m f t e h = in_left t (cond (depends m f) (table (suc m) (less (suc m) f) ∷ []) []) _ (subst (λ u. In u (cond (depends m f) (table (suc m) (less (suc m) f) ∷ []) [])) h (own_in (depends m f) _ e))
+
+  pub in_out_part : (m : ℕ) (f : List Bool → ℤ) (t : List ℤ) → In t (needed m (λ c. f (false ∷ c))) → In t (needed (suc m) f)
+  in_out_part m f t h = in_right t (cond (depends m f) (table (suc m) (less (suc m) f) ∷ []) []) _ (in_left t (needed m (λ c. f (false ∷ c))) _ h)
+
+  pub in_fit_part : (m : ℕ) (f : List Bool → ℤ) (t : List ℤ) → In t (needed m (λ c. f (true ∷ c))) → In t (needed (suc m) f)
+  in_fit_part m f t h = in_right t (cond (depends m f) (table (suc m) (less (suc m) f) ∷ []) []) _ (in_right t (needed m (λ c. f (false ∷ c))) _ h)
+
+  -- what is reached from a node: itself, or from a child
+  abbrev Reached : ℕ → Node → ℕ → Type 0
+  Reached j n k = (k ≡ j) ⊎ (Reach ns k n.left ⊎ Reach ns k n.right)
+
+  reached : (j k : ℕ) (r : Child) (n : Node) → r ≡ Place j → slice_get ns j ≡ Some n → Reach ns k r → Reached j n k
+  reached j k r n e f here_it = inl (cc)
+  reached j k r n e f (on_left q g h) = let p : q ≡ n = cc in inr (inl (subst (λ z. Reach ns k z.left) p h))
+  reached j k r n e f (on_right q g h) = let p : q ≡ n = cc in inr (inr (subst (λ z. Reach ns k z.right) p h))
+
+  only_step : (m i : ℕ) → i + suc m ≡ parts → Only m (suc i) → (a : ℤ) (r : Child) (f : List Bool → ℤ) → Denotes (suc m) i a r f → (k : ℕ) (n : Node) → slice_get ns k ≡ Some n → Reach ns k r → View ns i r → In (node_table parts ns k n) (needed (suc m) f)
+  only_step m i e ih a r f d k n fk re (inl s) = in_out_part m f _ (ih a r (λ c. f (false ∷ c)) s.1 (skip_denotes m i a r f false s.0 d) k n fk re)
+  only_step m i e ih a r f d k n fk re (inr s) = at (reached st.k k r s.0 st.is st.found re)
+    where
+      st : Stands ns i r s.0
+      st = s.1
+
+      at : Reached st.k s.0 k → In (node_table parts ns k n) (needed (suc m) f)
+      at (inl h) =
+          let found = st.found in
+          let p : s.0 ≡ n = cc in
+          in_own_part m f _ (stands_depends m i e a r f s.0 st d) (own_table m i e a r f s.0 st d ∙ ap₂ (node_table parts ns) (sym h) p)
+      at (inr (inl h)) = in_fit_part m f _ (ih (a +ℤ s.0.value) s.0.left (λ c. f (true ∷ c)) (up i st.k s.0 st.found st.part_is).0 (left_denotes m i a r f s.0 st.stands d) k n fk h)
+      at (inr (inr h)) = in_out_part m f _ (ih a s.0.right (λ c. f (false ∷ c)) (up i st.k s.0 st.found st.part_is).1 (right_denotes m i a r f s.0 st.stands d) k n fk h)
+
+  -- every node that is reached is a needed function of f
+  pub only : (m i : ℕ) → i + m ≡ parts → Only m i
+  only zero i e a r f fr d k n fk re =
+      let h : i ≡ parts = omega arith in
+      absurd (no_reach ns k r (only_terminal parts ns sound r (subst (λ j. From ns j r) h fr)) re)
+  only (suc m) i e a r f fr d k n fk re = only_step m i e (only m (suc i) (omega arith)) a r f d k n fk re (view ns i r fr)

@@ -1,6 +1,7 @@
-use Rattle.std.proofs.Common.{◌≡◌, ℕ, zero, suc, ◌+◌, ◌-◌, ◌*◌, ◌/◌, ◌%◌, ◌^◌, ◌<◌, ◌≤◌, Bool, true, false, cond, ltb, List, [], ◌∷◌, ◌++◌, length, set, sym, refl, ap, ◌∙◌, arith, ltb-false, le-ltb, lt-ltb}
-use lib.Seq.{sets}
+use Rattle.std.proofs.Common.{◌≡◌, ℕ, zero, suc, ◌+◌, ◌-◌, ◌*◌, ◌/◌, ◌%◌, ◌^◌, ◌<◌, ◌≤◌, Bool, true, false, cond, ltb, List, [], ◌∷◌, ◌++◌, length, take, drop, set, sym, refl, ap, ◌∙◌, append_assoc, arith, ltb-false, le-ltb, lt-ltb}
 use native.Mathlib.Nat.{pow-succ'}
+use lib.Seq.{sets, sets-eq}
+use Rattle.std.proofs.lemmas.List.{drop_at, length-take-le}
 use Rattle.numbers.specs.Numbers.{read, rest_of_number, decode, groups, encode}
 use Rattle.numbers.proofs.Steps.{ends}
 
@@ -36,6 +37,21 @@ read_back (suc l) f v rest h z =
 pub decode_encode : (v : ℕ) (rest : List ℕ) → v < 2 ^ 32 → decode (encode v ++ rest) ≡ read v (length (encode v))
 decode_encode v rest h = read_back 4 true v rest h (λ _. refl)
 
+pub decode_sets : (xs : List ℕ) (at v : ℕ) → v < 2 ^ 32 → at + length (encode v) ≤ length xs
+    → decode (drop at (sets xs at (encode v))) ≡ read v (length (encode v))
+decode_sets xs at v h k =
+    let e = sets-eq (encode v) xs at k in
+    let lt : at ≤ length xs = omega arith in
+    ap (λ s. decode (drop at s)) (e ∙ append_assoc (take at xs) (encode v) (drop (at + length (encode v)) xs))
+    ∙ ap decode (drop_at (take at xs) (encode v ++ drop (at + length (encode v)) xs) at (length-take-le at xs lt))
+    ∙ decode_encode v (drop (at + length (encode v)) xs) h
+
+pub length_more : (left l v : ℕ) → l ≡ left - 1 → 0 < left → 128 ≤ v → length (groups left v) ≡ 1 + length (groups l (v / 128))
+length_more left l v e h k = ap length (groups_more left v h k) ∙ rw e (omega arith)
+
+pub length_last : (left v : ℕ) → v < 128 → length (groups left v) ≡ 1
+length_last left v h = ap length (groups_last left v h)
+
 length_cases : (t : Bool) (l v : ℕ) → 0 < length (cond t (v ∷ []) ((v % 128 + 128) ∷ groups l (v / 128)))
 length_cases true l v = omega arith
 length_cases false l v = omega arith
@@ -44,12 +60,6 @@ pub length_some : (left v : ℕ) → 0 < length (groups left v)
 unfolding groups
 length_some zero v = omega arith
 length_some (suc l) v = length_cases (ltb v 128) l v
-
-pub length_more : (left l v : ℕ) → l ≡ left - 1 → 0 < left → 128 ≤ v → length (groups left v) ≡ 1 + length (groups l (v / 128))
-length_more left l v e h k = ap length (groups_more left v h k) ∙ rw e (omega arith)
-
-pub length_last : (left v : ℕ) → v < 128 → length (groups left v) ≡ 1
-length_last left v h = ap length (groups_last left v h)
 
 pub sets_more : (xs : List ℕ) (i left l v b : ℕ) → b ≡ v % 128 + 128 → l ≡ left - 1 → 0 < left → 128 ≤ v
     → sets xs i (groups left v) ≡ sets (set xs i b) (i + 1) (groups l (v / 128))

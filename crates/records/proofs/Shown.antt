@@ -129,7 +129,7 @@ shown body at q ts h f =
     let (j, a, b) = shifts_terms (length body - q) body at 0 0 q 0 ts (length body) (ap (read_terms (length body - q) body at 0) (omega arith) ∙ f) in
     ap (λ n. read_terms n (drop q body) 0 0 0) (length-drop q body) ∙ b ∙ ap (found ts) (let l = length-drop q body in omega arith)
 
-limit_found : (l : Sense) (body : List ℕ) (at p q : ℕ) (v : ℤ) (ts : List Term) → q ≤ length body → signed_at body p ≡ found v q
+pub limit_found : (l : Sense) (body : List ℕ) (at p q : ℕ) (v : ℤ) (ts : List Term) → q ≤ length body → signed_at body p ≡ found v q
     → read_terms (length body - q) body at 0 q ≡ found ts (length body)
     → (read_limit l body at p ≡ found (limit_says l v (terms_in (drop q body))) (length body)) × LeftIn (drop q body) 0 0 (terms_in (drop q body))
 limit_found l body at p q v ts h e f =

@@ -315,3 +315,20 @@ end_is_last stage names sheet at r b e =
     let g : ended sheet at end_says h.start ≡ found end_says r =
     sym (ap (λ i. read_payload i names sheet (take (h.start + h.size) sheet) at h.start) (sym k)) ∙ h.says in
     (ended_sole sheet at end_says end_says h.start r g).2
+
+-- what is read is of a kind that may come
+pub kind_allowed : (stage : Stage) (names : List (List ℕ)) (sheet : List ℕ) (at r : ℕ) (s : Saying) → Bytes sheet → read_record stage names sheet at ≡ found s r → allowed stage (kind_of s) ≡ true
+kind_allowed stage names sheet at r s b e =
+    let h = head stage names sheet at r s e in
+    let (k, w, m) = holds stage names sheet at r s b h in
+    ap (allowed stage) k ∙ h.may_come_lem
+
+parts_stage : (stage : Stage) → allowed stage 1 ≡ true → stage ≡ Parts
+parts_stage Parts h = refl
+parts_stage Limits h = let z : ◌≡◌ {A = ℕ} 0 1 = cc in absurd (omega arith)
+parts_stage End h = let z : ◌≡◌ {A = ℕ} 0 1 = cc in absurd (omega arith)
+
+-- a part is read while only parts have come
+pub part_in_parts : (stage : Stage) (names : List (List ℕ)) (sheet : List ℕ) (at : ℕ) (name : List ℕ) (mass : ℤ) (wait price r : ℕ) → Bytes sheet
+    → read_record stage names sheet at ≡ found (part_says name mass wait price) r → stage ≡ Parts
+part_in_parts stage names sheet at name mass wait price r b e = parts_stage stage (kind_allowed stage names sheet at r (part_says name mass wait price) b e)

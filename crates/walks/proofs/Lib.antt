@@ -4,6 +4,7 @@ pub mod Sum
 pub mod Three
 pub mod Whole
 pub mod Turns
+pub mod Alone
 pub mod Ranged
 pub mod Squared
 pub mod Looked
