@@ -1,7 +1,7 @@
 //! Tables that remember the results of questions, and may forget them.
 #![tactic(auto)]
 
-ghost use Rattle.std.specs.Prelude.{◌≡◌, ◌-◌, ◌%◌, ◌<◌, ◌⊎◌, ◌≢◌, [], length, drop, Some, MatchOption, SomeIff, All, AllPairs, Contains, slice_set};
+ghost use Rattle.std.specs.Prelude.{◌≡◌, ◌%◌, ◌<◌, ◌⊎◌, ◌≢◌, [], length, Some, MatchOption, SomeIff, All, AllPairs, Contains, slice_set};
 ghost use Rattle.std.specs.List.{HoldsAt};
 ghost use Rattle.diagrams.specs.declared.Edge.{Edge};
 ghost use Rattle.diagrams.specs.declared.Question.{Question};
@@ -133,16 +133,6 @@ fn place(pairs: &[Remembered], q: &Question) -> Option<usize>
         .position(|remembered| remembered.question == *q)
 }
 
-// Lets the oldest of 64 pairs go: the others are copied one place down, which costs less than taking it out.
-fn make_room(pairs: &mut ArrayVec<Remembered, 64>)
-    ensures { pairs.new.items ≡ drop (length pairs.old.items - 63) pairs.old.items }
-{
-    if pairs.is_full() {
-        pairs.copy_within(1.., 0);
-        pairs.pop();
-    }
-}
-
 impl Latest {
     /// A table that holds no pair yet.
     pub fn new() -> Latest
@@ -176,7 +166,9 @@ impl Memory for Latest {
                 self.pairs[i] = pair;
             }
             None => {
-                make_room(&mut self.pairs);
+                if self.pairs.is_full() {
+                    self.pairs.remove(0);
+                }
                 self.pairs.push(pair);
             }
         }

@@ -15,7 +15,7 @@ invariant_of-self-in-None c =
     let xs = c.args.self.now.pairs.items in
     record { once = apart_push xs _ (length xs - 63) c.args.q c.args.e (search rules) (search rules) c.args.self.now.once }
 
-pub returns-in-None-clause-old : goal.returns-in-None-clause-old
-returns-in-None-clause-old c =
+pub returns-after-is_full-clause-old : goal.returns-after-is_full-clause-old
+returns-after-is_full-clause-old c =
     let xs = c.args.self.now.pairs.items in
     contains_push xs _ (length xs - 63) c.args.q c.args.e (search rules)
