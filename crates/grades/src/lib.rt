@@ -199,7 +199,8 @@ impl Grade for MassPrice {
     }
 
     fn ranks_no_later(&self, other: &MassPrice) -> bool {
-        self.cmp(other).is_le()
+        // By the fields and not by the derived order, by which a solve over skipped parts takes half as long again.
+        self.grams < other.grams || (self.grams == other.grams && self.price <= other.price)
     }
 }
 
