@@ -24,7 +24,7 @@ extern "C" {
  * The two ranges must not overlap. A length of 0 is allowed; the pointer must still not be null.
  * It works with 1,024 node places and 1,024 rows: a sheet that needs more nodes is listed as fault 15.
  * It uses no heap and keeps nothing between calls, so calls from several threads at once are safe as long as
- * their `out` ranges differ. It needs about 380 KiB of stack (measured on x86-64).
+ * their `out` ranges differ. It needs about 350 KiB of stack (measured on x86-64).
  */
 int64_t set_chooser_list(const uint8_t *sheet, size_t sheet_len, uint8_t *out, size_t out_len);
 
