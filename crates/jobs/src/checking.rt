@@ -45,6 +45,7 @@ fn is_kept(limit: &Limit, parts: u8, choice: Choice) -> bool
 
 impl Ledger {
     /// The first standing limit that the choice breaks.
+    // For any number of parts up to 48, also on a ledger without a job, so the number is a parameter with a condition.
     pub fn first_broken(&self, parts: u8, choice: Choice) -> Option<usize>
         requires few { parts ≤ 48 }
         ensures { broken 0 (limits_of self.now.records self.now.count) (bits parts choice.0) ≡ result }

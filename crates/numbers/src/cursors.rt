@@ -14,7 +14,7 @@ pub struct Cursor<'a> {
 }
 
 // Puts a number from a place on where there is room, and says where it ends.
-// By a loop that stores each byte in its place: how many there are is known once the rest is below 128.
+// By a loop that stores each byte in its place: by way of a vector of the bytes, writing a number takes twice as long.
 fn put_groups(out: &mut [u8], at: usize, value: u32) -> usize
     requires { at + length (encode value) ≤ length out.old }
     ensures end { result ≡ at + length (encode value) }

@@ -18,6 +18,7 @@ use memories::Memory;
 use records::{Reader, Record};
 
 // Reads one record and does what it says.
+// Reader, job and notes are parameters and no struct of the three, which would take the job from its caller and move it.
 fn read_one<M: Memory>(
     reader: &mut Reader,
     job: &mut Job,
