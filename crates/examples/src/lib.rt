@@ -55,4 +55,6 @@ pub fn refusal(job: &Job, masses: &[i32], rows: &mut [Row<Mass>]) -> Option<Refu
 #[cfg(test)]
 mod kind_tests;
 #[cfg(test)]
+mod sheet_tests;
+#[cfg(test)]
 mod tests;

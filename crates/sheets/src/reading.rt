@@ -35,7 +35,7 @@ fn read_one<M: Memory>(
     ensures goes { IfOk result (λ p. p ≡ GoesOn → reader.old.at < reader.new.at) }
     ensures names { length (held_names reader.new) ≡ length (parts_of notes.new) }
     ensures parts { (stands job.new).parts ≡ length (parts_of notes.new) }
-    ensures none { IfOk result (λ p. p ≡ GoesOn → NoneYet reader.new.stage (stands job.new).limits) }
+    ensures none { NoneYet reader.new.stage (stands job.new).limits }
 {
     let placed = reader.next()?;
     let place = placed.place;
@@ -73,8 +73,10 @@ pub fn read_all<M: Memory>(
     ensures is { came_all result (told_of reader.new job.new notes.new)
         ≡ read_all (suc (length reader.old.sheet.now)) (places job.old) reader.old.sheet.now 0 untold 0 }
     ensures places { places job.new ≡ places job.old }
+    ensures sheet { reader.new.sheet.now ≡ reader.old.sheet.now }
     ensures parts { (stands job.new).parts ≡ length (parts_of notes.new) }
     ensures names { length (held_names reader.new) ≡ length (parts_of notes.new) }
+    ensures none { NoneYet reader.new.stage (stands job.new).limits }
 {
     // By a loop with a count: a fault has its record's number, and reading ends by the end record and not by a count.
     let mut record = 0;

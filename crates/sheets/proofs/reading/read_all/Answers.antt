@@ -38,7 +38,7 @@ loop-record-preserved g c =
       omega (arith, low, less),
       given.names,
       given.parts,
-      given.none c.in-Ok-GoesOn.field-0-is,
+      given.none,
     )
 
 pub returns-in-Ok-Ended-clause-is : goal.returns-in-Ok-Ended-clause-is
