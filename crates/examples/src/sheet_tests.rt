@@ -1,3 +1,4 @@
+//! A whole sheet read into a job: a call of `sheets`, which `list` makes and which `set_chooser` does not hand on.
 use super::*;
 use set_chooser::{Choice, NoMemory, Place, Reader};
 use sheets::faults::{RecordFault, SheetFault};
